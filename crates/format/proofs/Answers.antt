@@ -1,0 +1,139 @@
+-- The numbers lose nothing: two answers that are told alike are equal.
+use Prim.Native.Nat.{ℕ}
+use mathlib.Core.Path.{_≡_, refl, sym, ap, _∙_}
+use mathlib.Core.Bool.{false}
+use lib.Dec.{eqb}
+use Rattle.base.specs.Pick.{pick}
+use Rattle.format.specs.Answers.{number, place, verdict, located, chained, written}
+use Rattle.format.specs.declared.Refusal.{Refusal}
+use Rattle.format.specs.declared.Refusal.the-variants.{TooShort, Magic, Version, Newline, Flags, Sizes, Footer, Misplaced, GrainPast, Marker, CopiesDiffer, SharedSector, SectorPast, TooLittleRoom, LayersDiffer, NotCollapsible, LayerLengths}
+use Rattle.format.specs.declared.Source.{Source}
+use Rattle.format.specs.declared.Source.the-variants.{Absent, Zero, Stored, Packed}
+use Rattle.format.specs.declared.CheckAnswer.{CheckAnswer}
+use Rattle.format.specs.declared.CheckAnswer.the-variants.{Accepted, Refused as unaccepted}
+use Rattle.format.specs.declared.LookupAnswer.{LookupAnswer}
+use Rattle.format.specs.declared.LookupAnswer.the-variants.{Found, Refused as notFound}
+use Rattle.format.specs.declared.ChainAnswer.{ChainAnswer}
+use Rattle.format.specs.declared.ChainAnswer.the-variants.{Found as foundIn, Refused as notFoundIn}
+use Rattle.format.specs.declared.CollapseAnswer.{CollapseAnswer}
+use Rattle.format.specs.declared.CollapseAnswer.the-variants.{Written as writtenTo, Refused as notWritten}
+use Rattle.format.specs.declared.Verdict.{Verdict}
+use Rattle.format.specs.declared.Located.{Located}
+use Rattle.format.specs.declared.Written.{Written}
+
+-- what can be told back is told without loss
+lossless : {A B : Type 0} (tell : A → B) (back : B → A) → ((a : A) → back (tell a) ≡ a) → (a b : A) → tell a ≡ tell b → a ≡ b
+lossless tell back h a b e = sym (h a) ∙ ap back e ∙ h b
+
+-- ---- refusals
+refusalOf : ℕ → ℕ → Refusal
+refusalOf n p =
+    pick (eqb n 1) TooShort
+    (pick (eqb n 2) Magic
+    (pick (eqb n 3) Version
+    (pick (eqb n 4) Newline
+    (pick (eqb n 5) Flags
+    (pick (eqb n 6) Sizes
+    (pick (eqb n 7) Footer
+    (pick (eqb n 8) Misplaced
+    (pick (eqb n 9) (GrainPast p)
+    (pick (eqb n 10) (Marker p)
+    (pick (eqb n 11) CopiesDiffer
+    (pick (eqb n 12) SharedSector
+    (pick (eqb n 20) SectorPast
+    (pick (eqb n 21) TooLittleRoom
+    (pick (eqb n 22) LayersDiffer (pick (eqb n 23) NotCollapsible LayerLengths)))))))))))))))
+
+-- a refusal has its number and place, and the number is not 0
+record Told (r : Refusal) : Type 0 where
+  back : refusalOf (number r) (place r) ≡ r
+  some : eqb (number r) 0 ≡ false
+
+told : (r : Refusal) → Told r
+unfolding pick refusalOf
+told TooShort = record { back = refl; some = refl }
+told Magic = record { back = refl; some = refl }
+told Version = record { back = refl; some = refl }
+told Newline = record { back = refl; some = refl }
+told Flags = record { back = refl; some = refl }
+told Sizes = record { back = refl; some = refl }
+told Footer = record { back = refl; some = refl }
+told Misplaced = record { back = refl; some = refl }
+told (GrainPast g) = record { back = refl; some = refl }
+told (Marker g) = record { back = refl; some = refl }
+told CopiesDiffer = record { back = refl; some = refl }
+told SharedSector = record { back = refl; some = refl }
+told SectorPast = record { back = refl; some = refl }
+told TooLittleRoom = record { back = refl; some = refl }
+told LayersDiffer = record { back = refl; some = refl }
+told NotCollapsible = record { back = refl; some = refl }
+told LayerLengths = record { back = refl; some = refl }
+
+pub refusal-alike : (r q : Refusal) → number r ≡ number q → place r ≡ place q → r ≡ q
+refusal-alike r q e p = sym (told r .back) ∙ rw (e, p) (told q .back)
+
+-- ---- the check
+abbrev checkOf : Verdict → CheckAnswer
+checkOf v = pick (eqb (v .number) 0) (Accepted (v .capacity) (v .«grain_size»)) (unaccepted (refusalOf (v .number) (v .place)))
+
+check-back : (a : CheckAnswer) → checkOf (verdict a) ≡ a
+unfolding pick
+check-back (Accepted c g) = refl
+check-back (unaccepted r) = rw (told r .some, told r .back)
+
+pub check-alike : (a b : CheckAnswer) → verdict a ≡ verdict b → a ≡ b
+check-alike = lossless verdict checkOf check-back
+
+-- ---- the lookups
+abbrev sourceIs : Located → Source
+sourceIs l =
+    pick (eqb (l .kind) 0) Absent
+    (pick (eqb (l .kind) 1) Zero (pick (eqb (l .kind) 2) (Stored (l .sector)) (Packed (l .sector) (l .size) (l .offset))))
+
+abbrev chainOf : Located → ChainAnswer
+chainOf l =
+    pick (eqb (l .number) 0) (foundIn (record { layer = l .layer; source = sourceIs l }))
+    (notFoundIn (l .layer) (refusalOf (l .number) (l .place)))
+
+found-back : (layer : ℕ) (s : Source) → chainOf (chained (foundIn (record { layer = layer; source = s }))) ≡ foundIn (record { layer = layer; source = s })
+unfolding pick
+found-back layer Absent = refl
+found-back layer Zero = refl
+found-back layer (Stored f) = refl
+found-back layer (Packed m n o) = refl
+
+chain-back : (a : ChainAnswer) → chainOf (chained a) ≡ a
+unfolding pick
+chain-back (foundIn a) = found-back (a .layer) (a .source)
+chain-back (notFoundIn layer r) = rw (told r .some, told r .back)
+
+pub chain-alike : (a b : ChainAnswer) → chained a ≡ chained b → a ≡ b
+chain-alike = lossless chained chainOf chain-back
+
+-- a lookup is told as a chain of one layer is
+abbrev inChain : LookupAnswer → ChainAnswer
+inChain (Found s) = foundIn (record { layer = 0; source = s })
+inChain (notFound r) = notFoundIn 0 r
+
+abbrev outOfChain : ChainAnswer → LookupAnswer
+outOfChain (foundIn a) = Found (a .source)
+outOfChain (notFoundIn layer r) = notFound r
+
+lookup-back : (a : LookupAnswer) → outOfChain (chainOf (located a)) ≡ a
+lookup-back (Found s) = ap outOfChain (chain-back (inChain (Found s)))
+lookup-back (notFound r) = ap outOfChain (chain-back (inChain (notFound r)))
+
+pub lookup-alike : (a b : LookupAnswer) → located a ≡ located b → a ≡ b
+lookup-alike = lossless located (λ l. outOfChain (chainOf l)) lookup-back
+
+-- ---- collapse and normal form
+abbrev collapseOf : Written → CollapseAnswer
+collapseOf w = pick (eqb (w .number) 0) (writtenTo (w .length)) (notWritten (refusalOf (w .number) (w .place)))
+
+collapse-back : (a : CollapseAnswer) → collapseOf (written a) ≡ a
+unfolding pick
+collapse-back (writtenTo n) = refl
+collapse-back (notWritten r) = rw (told r .some, told r .back)
+
+pub collapse-alike : (a b : CollapseAnswer) → written a ≡ written b → a ≡ b
+collapse-alike = lossless written collapseOf collapse-back

@@ -1,0 +1,7 @@
+pub mod Images
+pub mod Geometry
+pub mod Entries
+pub mod Areas
+pub mod Answers
+pub mod Mistakes
+pub mod Unused

@@ -1,0 +1,85 @@
+-- The answers in document 01's numbers: a refusal's number and place, and for each answer its values.
+use Prim.Native.Nat.{ℕ}
+use Rattle.format.specs.declared.Refusal.{Refusal}
+use Rattle.format.specs.declared.Refusal.the-variants.{TooShort, Magic, Version, Newline, Flags, Sizes, Footer, Misplaced, GrainPast, Marker, CopiesDiffer, SharedSector, SectorPast, TooLittleRoom, LayersDiffer, NotCollapsible, LayerLengths}
+use Rattle.format.specs.declared.Source.{Source}
+use Rattle.format.specs.declared.Source.the-variants.{Absent, Zero, Stored, Packed}
+use Rattle.format.specs.declared.CheckAnswer.{CheckAnswer}
+use Rattle.format.specs.declared.CheckAnswer.the-variants.{Accepted, Refused as unaccepted}
+use Rattle.format.specs.declared.LookupAnswer.{LookupAnswer}
+use Rattle.format.specs.declared.LookupAnswer.the-variants.{Found, Refused as notFound}
+use Rattle.format.specs.declared.ChainAnswer.{ChainAnswer}
+use Rattle.format.specs.declared.ChainAnswer.the-variants.{Found as foundIn, Refused as notFoundIn}
+use Rattle.format.specs.declared.CollapseAnswer.{CollapseAnswer}
+use Rattle.format.specs.declared.CollapseAnswer.the-variants.{Written as writtenTo, Refused as notWritten}
+use Rattle.format.specs.declared.Verdict.{Verdict}
+use Rattle.format.specs.declared.Located.{Located}
+use Rattle.format.specs.declared.Written.{Written}
+
+-- ---- refusals: number and place
+abbrev pub number : Refusal → ℕ
+number TooShort = 1
+number Magic = 2
+number Version = 3
+number Newline = 4
+number Flags = 5
+number Sizes = 6
+number Footer = 7
+number Misplaced = 8
+number (GrainPast g) = 9
+number (Marker g) = 10
+number CopiesDiffer = 11
+number SharedSector = 12
+number SectorPast = 20
+number TooLittleRoom = 21
+number LayersDiffer = 22
+number NotCollapsible = 23
+number LayerLengths = 24
+
+-- the lowest grain number for 9 and 10, else 0
+abbrev pub place : Refusal → ℕ
+place TooShort = 0
+place Magic = 0
+place Version = 0
+place Newline = 0
+place Flags = 0
+place Sizes = 0
+place Footer = 0
+place Misplaced = 0
+place (GrainPast g) = g
+place (Marker g) = g
+place CopiesDiffer = 0
+place SharedSector = 0
+place SectorPast = 0
+place TooLittleRoom = 0
+place LayersDiffer = 0
+place NotCollapsible = 0
+place LayerLengths = 0
+
+-- ---- the check: capacity and grain size
+abbrev pub verdict : CheckAnswer → Verdict
+verdict (Accepted capacity size) = record { number = 0; place = 0; capacity = capacity; «grain_size» = size }
+verdict (unaccepted r) = record { number = number r; place = place r; capacity = 0; «grain_size» = 0 }
+
+-- ---- the lookup and the chain lookup: a layer and the kind of source: 0 absent, 1 zero, 2 stored, 3 packed
+abbrev pub served : ℕ → Source → Located
+served layer Absent = record { number = 0; layer = layer; place = 0; kind = 0; sector = 0; size = 0; offset = 0 }
+served layer Zero = record { number = 0; layer = layer; place = 0; kind = 1; sector = 0; size = 0; offset = 0 }
+served layer (Stored s) = record { number = 0; layer = layer; place = 0; kind = 2; sector = s; size = 0; offset = 0 }
+served layer (Packed m n o) = record { number = 0; layer = layer; place = 0; kind = 3; sector = m; size = n; offset = o }
+
+abbrev pub unserved : ℕ → Refusal → Located
+unserved layer r = record { number = number r; layer = layer; place = place r; kind = 0; sector = 0; size = 0; offset = 0 }
+
+abbrev pub located : LookupAnswer → Located
+located (Found source) = served 0 source
+located (notFound r) = unserved 0 r
+
+abbrev pub chained : ChainAnswer → Located
+chained (foundIn a) = served (a .layer) (a .source)
+chained (notFoundIn layer r) = unserved layer r
+
+-- ---- collapse and normal form: the result's length in bytes
+abbrev pub written : CollapseAnswer → Written
+written (writtenTo long) = record { number = 0; place = 0; length = long }
+written (notWritten r) = record { number = number r; place = place r; length = 0 }

@@ -1,0 +1,124 @@
+-- The full check: refusals 8 to 12, each over the whole image, in their order after 1 to 7.
+use Prim.Native.Nat.{ℕ, zero, suc, _+_}
+use mathlib.Core.List.{List}
+use mathlib.Core.Bool.{Bool, true, false, not, _&&_, _||_}
+use lib.Dec.{ltb, eqb}
+use Rattle.base.specs.Pick.{pick}
+use Rattle.format.specs.Geometry.{fileSectors}
+use Rattle.format.specs.Header.{grainsOf, entriesOf, judge}
+use Rattle.format.specs.Entries.{entryAt, tableAt, grainEntry, entriesInUse, markerBroken, some}
+use Rattle.format.specs.Areas.{redundantArea, primaryTables, redundantTables, grainArea, areas, runsPast, meet}
+use Rattle.format.specs.declared.Header.{Header}
+use Rattle.format.specs.declared.Entry.{Entry}
+use Rattle.format.specs.declared.Entry.the-variants.{Absent, Zero, Sector}
+use Rattle.format.specs.declared.Lowest.{Lowest}
+use Rattle.format.specs.declared.Lowest.the-variants.{None, Grain}
+use Rattle.format.specs.declared.Refusal.{Refusal}
+use Rattle.format.specs.declared.Refusal.the-variants.{Misplaced, GrainPast, Marker, CopiesDiffer, SharedSector}
+use Rattle.format.specs.declared.HeaderAnswer.{HeaderAnswer}
+use Rattle.format.specs.declared.HeaderAnswer.the-variants.{Known, Refused as unknown}
+use Rattle.format.specs.declared.CheckAnswer.{CheckAnswer}
+use Rattle.format.specs.declared.CheckAnswer.the-variants.{Accepted, Refused}
+
+-- ---- 8, part by part, in this order
+-- one descriptor number zero and one not, or the descriptor past F
+abbrev pub descriptorMisplaced : ℕ → Header → Bool
+descriptorMisplaced f h =
+    (eqb (h .descriptor) 0 && not (eqb (h .«descriptor_sectors») 0))
+    || ((not (eqb (h .descriptor) 0) && eqb (h .«descriptor_sectors») 0)
+    || ltb f (h .descriptor + h .«descriptor_sectors»))
+
+-- directory sector 0, or the directory past F
+abbrev pub directoryMisplaced : ℕ → Header → Bool
+directoryMisplaced f h = eqb (h .directory) 0 || ltb f (h .directory + h .«directory_sectors»)
+
+-- the redundant directory past F
+abbrev pub redundantMisplaced : ℕ → Header → Bool
+redundantMisplaced f h = runsPast f (redundantArea h)
+
+-- a table of either past F
+abbrev pub primaryMisplaced : List ℕ → Header → Bool
+primaryMisplaced s h = runsPast (fileSectors s) (primaryTables s h)
+
+abbrev pub copiesMisplaced : List ℕ → Header → Bool
+copiesMisplaced s h = runsPast (fileSectors s) (redundantTables s h)
+
+unfoldable pub misplaced : List ℕ → Header → Bool
+misplaced s h =
+    pick (descriptorMisplaced (fileSectors s) h) true
+    (pick (directoryMisplaced (fileSectors s) h) true
+    (pick (redundantMisplaced (fileSectors s) h) true (pick (primaryMisplaced s h) true (copiesMisplaced s h))))
+
+-- ---- 9 and 10, with the lowest grain number
+-- the first of the n grains from g on that is broken
+unfoldable pub lowestFrom : (ℕ → Bool) → ℕ → ℕ → Lowest
+lowestFrom broken g zero = None
+lowestFrom broken g (suc n) = let later = lowestFrom broken (g + 1) n in pick (broken g) (Grain g) later
+
+-- 9: a grain past F. Where a packed grain's marker is not below F, it takes a sector at least
+abbrev pub grainPast : List ℕ → Header → ℕ → Bool
+grainPast s h g = runsPast (fileSectors s) (grainArea s h g)
+
+-- 10: a packed grain's size or first sector
+unfoldable pub markerAt : List ℕ → ℕ → ℕ → Entry → Bool
+markerAt s size g Absent = false
+markerAt s size g Zero = false
+markerAt s size g (Sector e) = markerBroken s size g e
+
+abbrev pub badMarker : List ℕ → Header → ℕ → Bool
+badMarker s h g = h .packed && markerAt s (h .«grain_size») g (grainEntry s h g)
+
+abbrev pub lowestPast : List ℕ → Header → Lowest
+lowestPast s h = lowestFrom (grainPast s h) 0 (grainsOf h)
+
+abbrev pub lowestBadMarker : List ℕ → Header → Lowest
+lowestBadMarker s h = lowestFrom (badMarker s h) 0 (grainsOf h)
+
+-- ---- 11: copies differ
+-- the n entries of two tables differ somewhere
+abbrev pub tablesDiffer : List ℕ → ℕ → ℕ → ℕ → Bool
+tablesDiffer s t u n = some (λ k. not (eqb (entryAt s t k) (entryAt s u k))) n
+
+-- two directory entries: 0 and 1 stand exactly where they stand in the other, and tables are equal in the n entries in use
+unfoldable pub copyDiffers : List ℕ → ℕ → Entry → Entry → Bool
+copyDiffers s n Absent Absent = false
+copyDiffers s n Absent Zero = true
+copyDiffers s n Absent (Sector u) = true
+copyDiffers s n Zero Absent = true
+copyDiffers s n Zero Zero = false
+copyDiffers s n Zero (Sector u) = true
+copyDiffers s n (Sector t) Absent = true
+copyDiffers s n (Sector t) Zero = true
+copyDiffers s n (Sector t) (Sector u) = tablesDiffer s t u n
+
+abbrev pub entryDiffers : List ℕ → Header → ℕ → Bool
+entryDiffers s h d =
+    copyDiffers s (entriesInUse h d) (tableAt s (h .«one_is_zero») (h .directory) d) (tableAt s (h .«one_is_zero») (h .redundant) d)
+
+unfoldable pub copiesDiffer : List ℕ → Header → Bool
+copiesDiffer s h = pick (eqb (h .redundant) 0) false (some (entryDiffers s h) (entriesOf h))
+
+-- ---- 8 to 12 in their order
+unfoldable pub unlessGrain : Lowest → (ℕ → Refusal) → CheckAnswer → CheckAnswer
+unlessGrain None refusal a = a
+unlessGrain (Grain g) refusal a = Refused (refusal g)
+
+-- 12 comes last: a sector in two areas
+unfoldable pub checkApart : List ℕ → Header → CheckAnswer
+checkApart s h = pick (meet (areas s h)) (Refused SharedSector) (Accepted (h .capacity) (h .«grain_size»))
+
+unfoldable pub checkCopies : List ℕ → Header → CheckAnswer
+checkCopies s h = pick (copiesDiffer s h) (Refused CopiesDiffer) (checkApart s h)
+
+unfoldable pub checkGrains : List ℕ → Header → CheckAnswer
+checkGrains s h = unlessGrain (lowestPast s h) GrainPast (unlessGrain (lowestBadMarker s h) Marker (checkCopies s h))
+
+unfoldable pub checkLayout : List ℕ → Header → CheckAnswer
+checkLayout s h = pick (misplaced s h) (Refused Misplaced) (checkGrains s h)
+
+unfoldable pub checkFrom : List ℕ → HeaderAnswer → CheckAnswer
+checkFrom s (unknown r) = Refused r
+checkFrom s (Known h) = checkLayout s h
+
+abbrev pub check : List ℕ → CheckAnswer
+check s = checkFrom s (judge s)

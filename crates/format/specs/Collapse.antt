@@ -1,0 +1,71 @@
+-- Collapse of a lower and an upper image, and the normal form of one.
+use Prim.Native.Nat.{ℕ}
+use mathlib.Core.List.{List}
+use mathlib.Core.Bool.{Bool, _||_}
+use lib.Dec.{ltb}
+use Rattle.base.specs.Pick.{pick}
+use Rattle.base.specs.Bytes.{over}
+use Rattle.format.specs.Header.{headerOf}
+use Rattle.format.specs.Check.{check}
+use Rattle.format.specs.Chain.{unlike}
+use Rattle.format.specs.Grains.{Map, merge, grainMap}
+use Rattle.format.specs.Layout.{layoutOf, layoutLength}
+use Rattle.format.specs.declared.Header.{Header}
+use Rattle.format.specs.declared.Refusal.the-variants.{TooLittleRoom, LayersDiffer, NotCollapsible}
+use Rattle.format.specs.declared.CheckAnswer.{CheckAnswer}
+use Rattle.format.specs.declared.CheckAnswer.the-variants.{Accepted, Refused as unaccepted}
+use Rattle.format.specs.declared.CollapseAnswer.{CollapseAnswer}
+use Rattle.format.specs.declared.CollapseAnswer.the-variants.{Written, Refused}
+
+-- ---- the images: the layout of the map, or of the two maps merged
+abbrev pub mapOf : List ℕ → Map
+mapOf s = grainMap s (headerOf s)
+
+-- the layout of a map, of an image's capacity and grain size, and its length
+abbrev pub laidOut : Header → Map → List ℕ
+laidOut h m = layoutOf (h .capacity) (h .«grain_size») m
+
+abbrev pub laidLength : Header → Map → ℕ
+laidLength h m = layoutLength (h .capacity) (h .«grain_size») m
+
+abbrev pub normalForm : List ℕ → List ℕ
+normalForm s = laidOut (headerOf s) (mapOf s)
+
+abbrev pub collapsed : List ℕ → List ℕ → List ℕ
+collapsed lower upper = laidOut (headerOf lower) (merge (mapOf lower) (mapOf upper))
+
+-- ---- answers, where the output has `room` bytes
+unfoldable pub unlessUnaccepted : CheckAnswer → CollapseAnswer → CollapseAnswer
+unlessUnaccepted (unaccepted r) a = Refused r
+unlessUnaccepted (Accepted capacity size) a = a
+
+-- 23: COWD or flag 0x10000
+abbrev pub notCollapsible : Header → Bool
+notCollapsible h = h .cowd || h .packed
+
+-- 21: the output is too short
+unfoldable pub fitted : ℕ → ℕ → CollapseAnswer
+fitted room long = pick (ltb room long) (Refused TooLittleRoom) (Written long)
+
+-- the check, 23, 21
+unfoldable pub normalFrom : Header → Map → ℕ → CollapseAnswer
+normalFrom h m room = pick (notCollapsible h) (Refused NotCollapsible) (fitted room (laidLength h m))
+
+abbrev pub normal : List ℕ → ℕ → CollapseAnswer
+normal s room = unlessUnaccepted (check s) (normalFrom (headerOf s) (mapOf s) room)
+
+-- the lower's check, the upper's check, 23, 22, 21
+unfoldable pub collapseFrom : Header → Header → Map → ℕ → CollapseAnswer
+collapseFrom lower upper m room =
+    pick (notCollapsible lower || notCollapsible upper) (Refused NotCollapsible)
+    (pick (unlike lower upper) (Refused LayersDiffer) (fitted room (laidLength lower m)))
+
+abbrev pub collapse : List ℕ → List ℕ → ℕ → CollapseAnswer
+collapse lower upper room =
+    unlessUnaccepted (check lower)
+    (unlessUnaccepted (check upper) (collapseFrom (headerOf lower) (headerOf upper) (merge (mapOf lower) (mapOf upper)) room))
+
+-- ---- the output: the image from its start on, and what it held past that; on a refusal all that it held
+unfoldable pub output : CollapseAnswer → List ℕ → List ℕ → List ℕ
+output (Written long) image out = over out 0 image
+output (Refused r) image out = out

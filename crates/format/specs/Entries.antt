@@ -1,0 +1,64 @@
+-- Entries: what each means, which ones a grain uses, and what a grain takes in the file.
+use Prim.Native.Nat.{ℕ, zero, suc, _+_, _-_, _*_, _/_, _%_, min}
+use mathlib.Core.List.{List}
+use mathlib.Core.Bool.{Bool, false, not, _&&_, _||_}
+use lib.Dec.{eqb}
+use Rattle.base.specs.Pick.{pick}
+use Rattle.base.specs.Rounding.{ceil}
+use Rattle.base.specs.Numbers.{leAt}
+use Rattle.format.specs.Header.{grainsOf}
+use Rattle.format.specs.declared.Header.{Header}
+use Rattle.format.specs.declared.Entry.{Entry}
+use Rattle.format.specs.declared.Entry.the-variants.{Absent, Zero, Sector}
+
+-- entry k of the directory or table that starts at sector t: entries are u32
+abbrev pub entryAt : List ℕ → ℕ → ℕ → ℕ
+entryAt s t k = leAt s (512 * t + 4 * k) 4
+
+-- the entry table: 0 is absent; 1 is zero, where it means zeros; else the entry is a sector
+unfoldable pub meaning : Bool → ℕ → Entry
+meaning oneIsZero e = pick (eqb e 0) Absent (pick (oneIsZero && eqb e 1) Zero (Sector e))
+
+-- a directory entry that names no table says it of all its grains; else entry k of the table counts
+unfoldable pub inTable : List ℕ → Bool → ℕ → Entry → Entry
+inTable s oneIsZero k Absent = Absent
+inTable s oneIsZero k Zero = Zero
+inTable s oneIsZero k (Sector t) = meaning oneIsZero (entryAt s t k)
+
+-- directory entry d, in the directory at a sector
+abbrev pub tableAt : List ℕ → Bool → ℕ → ℕ → Entry
+tableAt s oneIsZero directory d = meaning oneIsZero (entryAt s directory d)
+
+-- grain g uses directory entry g / 512 and table entry g mod 512 (4,096 for COWD): for any number of entries per table
+unfoldable pub entryOf : List ℕ → Bool → ℕ → ℕ → ℕ → Entry
+entryOf s oneIsZero perTable directory g =
+    inTable s oneIsZero (g % perTable) (tableAt s oneIsZero directory (g / perTable))
+
+abbrev pub grainEntry : List ℕ → Header → ℕ → Entry
+grainEntry s h g = entryOf s (h .«one_is_zero») (h .«entries_per_table») (h .directory) g
+
+-- the entries of the table of directory entry d that are in use: those of grains below the number of grains
+abbrev pub entriesInUse : Header → ℕ → ℕ
+entriesInUse h d = min (h .«entries_per_table») (grainsOf h - d * h .«entries_per_table»)
+
+-- ---- what a grain takes
+-- a compressed grain starts with a marker: u64 first virtual sector, u32 size, then that many bytes
+abbrev pub markerFirst : List ℕ → ℕ → ℕ
+markerFirst s e = leAt s (512 * e) 8
+
+abbrev pub markerSize : List ℕ → ℕ → ℕ
+markerSize s e = leAt s (512 * e + 8) 4
+
+-- a stored grain takes grain-size sectors, also where capacity ends inside it; a packed one (12 + size) / 512, rounded up
+unfoldable pub grainSectors : List ℕ → Bool → ℕ → ℕ → ℕ
+grainSectors s packed size e = pick packed (ceil (12 + markerSize s e) 512) size
+
+-- the size is at least 1, and the first number is g x grain size
+unfoldable pub markerBroken : List ℕ → ℕ → ℕ → ℕ → Bool
+markerBroken s size g e = eqb (markerSize s e) 0 || not (eqb (markerFirst s e) (g * size))
+
+-- ---- numbers below n of which a rule says something
+-- it is true of one of them
+unfoldable pub some : (ℕ → Bool) → ℕ → Bool
+some broken zero = false
+some broken (suc n) = some broken n || broken n

@@ -1,0 +1,14 @@
+pub mod Geometry
+pub mod Kdmv
+pub mod Cowd
+pub mod Header
+pub mod Entries
+pub mod Areas
+pub mod Check
+pub mod Accepted
+pub mod Source
+pub mod Chain
+pub mod Grains
+pub mod Layout
+pub mod Collapse
+pub mod Answers

@@ -1,0 +1,156 @@
+// The types that all calls pass round. What they mean is document 01, section by section, in specs/.
+
+// Sector 0 of a KDMV image, field by field.
+pub struct KdmvFields {
+    pub version: u64,
+    pub flags: u64,
+    pub capacity: u64,
+    pub grain_size: u64,
+    pub descriptor: u64,
+    pub descriptor_sectors: u64,
+    pub entries_per_table: u64,
+    pub redundant: u64,
+    pub directory: u64,
+    // Whether the newline bytes are 0a 20 0d 0a.
+    pub newline: bool,
+    pub compression: u64,
+}
+
+// The header of a COWD image, field by field.
+pub struct CowdFields {
+    pub version: u64,
+    pub capacity: u64,
+    pub grain_size: u64,
+    pub directory: u64,
+    pub directory_entries: u64,
+}
+
+// What a call has to know of a header that was judged, of either kind. It is made in one place.
+pub struct Header {
+    pub cowd: bool,
+    pub capacity: u64,
+    pub grain_size: u64,
+    pub header_sectors: u64,
+    // Both 0 for no descriptor.
+    pub descriptor: u64,
+    pub descriptor_sectors: u64,
+    pub directory: u64,
+    pub directory_sectors: u64,
+    // The redundant directory's sector, 0 for none.
+    pub redundant: u64,
+    pub entries_per_table: u64,
+    pub table_sectors: u64,
+    pub one_is_zero: bool,
+    pub packed: bool,
+    pub footer: bool,
+}
+
+// Why a call on images refuses, in the order of the numbers 1 to 12, 20 to 24. A case holds the grain that is its place.
+pub enum Refusal {
+    TooShort,
+    Magic,
+    Version,
+    Newline,
+    Flags,
+    Sizes,
+    Footer,
+    Misplaced,
+    GrainPast(u64),
+    Marker(u64),
+    CopiesDiffer,
+    SharedSector,
+    SectorPast,
+    TooLittleRoom,
+    LayersDiffer,
+    NotCollapsible,
+    LayerLengths,
+}
+
+// What judging a part of an image finds.
+pub enum Fault {
+    None,
+    Found(Refusal),
+}
+
+// What an entry of a directory or table means.
+pub enum Entry {
+    Absent,
+    Zero,
+    Sector(u64),
+}
+
+// The lowest grain of a kind.
+pub enum Lowest {
+    None,
+    Grain(u64),
+}
+
+// Where a virtual sector comes from.
+pub enum Source {
+    Absent,
+    Zero,
+    // The file sector.
+    Stored(u64),
+    Packed { marker: u64, size: u64, offset: u64 },
+}
+
+// The source of a sector and the layer of a chain, from 0 at the base, that has it.
+pub struct LayerSource {
+    pub layer: u64,
+    pub source: Source,
+}
+
+// What each call answers.
+pub enum HeaderAnswer {
+    Known(Header),
+    Refused(Refusal),
+}
+
+pub enum CheckAnswer {
+    Accepted { capacity: u64, grain_size: u64 },
+    Refused(Refusal),
+}
+
+pub enum LookupAnswer {
+    Found(Source),
+    Refused(Refusal),
+}
+
+pub enum ChainAnswer {
+    Found(LayerSource),
+    Refused { layer: u64, refusal: Refusal },
+}
+
+pub enum CollapseAnswer {
+    // The result's length in bytes.
+    Written(u64),
+    Refused(Refusal),
+}
+
+// The same in numbers, as document 01 has them: number 0 is an answer, and what does not apply is 0.
+#[repr(C)]
+pub struct Verdict {
+    pub number: u64,
+    pub place: u64,
+    pub capacity: u64,
+    pub grain_size: u64,
+}
+
+// kind: 0 absent, 1 zero, 2 stored, 3 packed.
+#[repr(C)]
+pub struct Located {
+    pub number: u64,
+    pub layer: u64,
+    pub place: u64,
+    pub kind: u64,
+    pub sector: u64,
+    pub size: u64,
+    pub offset: u64,
+}
+
+#[repr(C)]
+pub struct Written {
+    pub number: u64,
+    pub place: u64,
+    pub length: u64,
+}
