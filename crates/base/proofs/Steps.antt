@@ -64,6 +64,10 @@ lt-or-ge a b = go (ltb a b) refl
     go true e = inl (ltb-true a b e)
     go false e = inr (ltb-false a b e)
 
+-- a comparison of a number that a call gave
+pub given-eq : {a b : ℕ} (n : ℕ) → a ≡ b → eqb a n ≡ eqb b n
+given-eq n e = rw e
+
 -- two comparisons that hold together
 pub same-lt : (a b c d : ℕ) → (a < b → c < d) → (b ≤ a → d ≤ c) → ltb a b ≡ ltb c d
 same-lt a b c d f g =

@@ -1,0 +1,129 @@
+-- Small texts on both sides of the grammar's edges and what the definitions say of them: one statement over a list, by computation.
+use Prim.Native.Nat.{ℕ}
+use Prim.Native.String.{String}
+use mathlib.Core.Path.{_≡_, refl}
+use mathlib.Core.List.{List, [], _∷_, _++_, map}
+use lib.ListN.{replicate}
+use Rattle.base.specs.Pick.{pick}
+use Rattle.base.specs.Strings.{sameWord, ascii}
+use Rattle.descriptor.specs.declared.Extent.{Extent}
+use Rattle.descriptor.specs.Words.{until, kept, worth, digits, number, closedAt, quotedLength}
+use Rattle.descriptor.specs.Text.{linesFrom}
+use Rattle.descriptor.specs.Extents.{accessOf, typeOf, spacedAt, spaced, offsetOf, extent, withName, fromName, withType, withSectors}
+use Rattle.descriptor.specs.Keys.{keyOf, versionIs, cidIs, createTypeIs, valueOf, withKey, splitAt}
+use Rattle.descriptor.specs.Line.{lineWith}
+use Rattle.descriptor.specs.Descriptor.{refused, skipped, opened, added, noted, once, judgedLine, step, complete, ended, judged, judgedText, readText}
+use Rattle.descriptor.specs.Records.{accepted, handed, answered, descriptorAnswer, descriptorList, foundFrom, findAnswer}
+
+-- ---- texts
+-- lines, each ended by 0a
+abbrev text : List String → List ℕ
+text [] = []
+text (l ∷ ls) = ascii l ++ 0x0a ∷ text ls
+
+-- a first line, the required keys, and more lines, the next of which is line 6
+abbrev under : String → List String → List ℕ
+under first ls = text (first ∷ "version=1" ∷ "CID=1f" ∷ "parentCID=ffffffff" ∷ "createType=\"custom\"" ∷ ls)
+
+-- the same under the right first line: createType's place is 70, and that of line 6 is 78
+abbrev keyed : List String → List ℕ
+keyed ls = under "# Disk DescriptorFile" ls
+
+-- ---- what is said of a text
+pub record Example : Type 0 where
+  pub gives : List ℕ
+  pub wants : List ℕ
+
+-- the values of records
+abbrev values : List Extent → List ℕ
+values [] = []
+values (e ∷ es) =
+    e .first ∷ e .sectors ∷ e .access ∷ e .kind ∷ e .«name_at» ∷ e .«name_length» ∷ e .offset ∷ values es
+
+-- n records of a lent list, whose values are all 9
+abbrev lent : ℕ → List Extent
+lent n =
+    replicate n (record { first = 9; sectors = 9; access = 9; kind = 9; «name_at» = 9; «name_length» = 9; offset = 9 })
+
+-- the first call's whole answer, and the n lent records after it
+abbrev tells : ℕ → List ℕ → List ℕ → Example
+tells n s wanted =
+    let d = descriptorAnswer s (lent n) in
+    record {
+      gives = d .number ∷ d .place ∷ d .extents ∷ d .version ∷ d .cid ∷ d .«parent_cid» ∷ d .«type_at» ∷ d .«type_length» ∷ values (descriptorList s (lent n));
+      wants = wanted;
+    }
+
+-- the first call's number and place
+abbrev refuses : ℕ → ℕ → List ℕ → Example
+refuses number place s =
+    let d = descriptorAnswer s (lent 32) in
+    record { gives = d .number ∷ d .place ∷ []; wants = number ∷ place ∷ [] }
+
+-- no refusal
+abbrev accepts : List ℕ → Example
+accepts s = refuses 0 0 s
+
+-- a list of two records; the second one's first sector and sectors add up to more than 2^64
+abbrev listed : List Extent
+listed =
+    record { first = 0; sectors = 4; access = 1; kind = 5; «name_at» = 0; «name_length» = 0; offset = 0 }
+    ∷ record { first = 0xffffffffffffffff; sectors = 2; access = 1; kind = 5; «name_at» = 0; «name_length» = 0; offset = 0 }
+    ∷ []
+
+-- the second call's number, place and record on that list
+abbrev finds : ℕ → List ℕ → Example
+finds sector wanted =
+    let f = findAnswer listed sector in
+    record { gives = f .number ∷ f .place ∷ f .extent ∷ []; wants = wanted }
+
+-- ---- the examples
+-- two extents
+abbrev two : List String
+two = "RW 4 FLAT \"a b\" 63" ∷ "rdonly 6 VMFS \"c\"" ∷ []
+
+-- texts in pairs, one on each side of an edge
+abbrev pub examples : List Example
+examples =
+    -- a whole text: names' places and lengths; VMFS without an offset has 0; the record past the last keeps what it held
+    tells 3 (keyed two)
+    ((0 ∷ 0 ∷ 2 ∷ 1 ∷ 0x1f ∷ 0xffffffff ∷ 70 ∷ 6 ∷ [])
+    ++ (0 ∷ 4 ∷ 1 ∷ 1 ∷ 89 ∷ 3 ∷ 63 ∷ [])
+    ++ (4 ∷ 6 ∷ 2 ∷ 2 ∷ 112 ∷ 1 ∷ 0 ∷ [])
+    ++ replicate 7 9)
+    -- the list is too short: all records keep what they held
+    ∷ tells 1 (keyed two) (21 ∷ replicate 7 0 ++ replicate 7 9)
+    -- the first line in another case; another first line
+    ∷ accepts (under "\t# disk DESCRIPTORFILE\r" ("RW 4 ZERO" ∷ []))
+    ∷ refuses 30 0 (under "# Disk Descriptor File" ("RW 4 ZERO" ∷ []))
+    -- zero bytes after a zero byte; text after one
+    ∷ accepts (keyed ("RW 4 ZERO" ∷ []) ++ 0 ∷ 0 ∷ [])
+    ∷ refuses 31 0 (keyed ("RW 4 ZERO" ∷ []) ++ 0 ∷ 0x0a ∷ [])
+    -- an empty line and a comment are skipped; a line of no form, where both were counted
+    ∷ accepts (keyed ("" ∷ "# note" ∷ "RW 4 ZERO" ∷ []))
+    ∷ refuses 32 8 (keyed ("" ∷ "# note" ∷ "word" ∷ "RW 4 ZERO" ∷ []))
+    -- a key line that starts with an access; an extent line
+    ∷ accepts (keyed ("RW=1" ∷ "RW 4 ZERO" ∷ []))
+    ∷ refuses 34 6 (keyed ("RW = 1" ∷ "RW 4 ZERO" ∷ []))
+    -- a required key twice, malformed, missing
+    ∷ refuses 33 7 (keyed ("RW 4 ZERO" ∷ "cid = 2" ∷ []))
+    ∷ refuses 33 2 (text ("# Disk DescriptorFile" ∷ "version=4" ∷ []))
+    ∷ refuses 33 0 (text ("# Disk DescriptorFile" ∷ "version=3" ∷ "RW 4 ZERO" ∷ []))
+    -- ZERO with a name; FLAT with no blank before its offset; 0d separates nothing
+    ∷ refuses 34 6 (keyed ("RW 4 ZERO \"a\"" ∷ []))
+    ∷ refuses 34 6 (keyed ("RW 4 FLAT \"a\"0" ∷ []))
+    ∷ refuses 34 6 (keyed ("RW 4 FLAT\r\"a\" 0" ∷ []))
+    -- a sum of 2^31, and above; so many sectors in one line
+    ∷ accepts (keyed ("RW 2147483647 ZERO" ∷ "RW 1 ZERO" ∷ []))
+    ∷ refuses 35 0 (keyed ("RW 2147483648 ZERO" ∷ "RW 1 ZERO" ∷ []))
+    ∷ refuses 34 6 (keyed ("RW 2147483649 ZERO" ∷ []))
+    -- the second call: a record's last sector, the one after it, and one that a sum of 64 bits would miss
+    ∷ finds 3 (0 ∷ 0 ∷ 0 ∷ [])
+    ∷ finds 4 (20 ∷ 0 ∷ 0 ∷ [])
+    ∷ finds 0xffffffffffffffff (0 ∷ 0 ∷ 1 ∷ [])
+    ∷ []
+
+-- the definitions say of each what is wanted
+pub examples-hold : map (λ (e : Example). e .gives) examples ≡ map (λ (e : Example). e .wants) examples
+unfolding pick sameWord until kept worth digits number closedAt quotedLength linesFrom accessOf typeOf spacedAt spaced offsetOf extent withName fromName withType withSectors keyOf versionIs cidIs createTypeIs valueOf withKey splitAt lineWith refused skipped opened added noted once judgedLine step complete ended judged judgedText readText accepted handed answered foundFrom
+examples-hold = refl
