@@ -2,7 +2,7 @@
 -- A predicate's call gives r ≡ b, its branch r ≡ true or r ≡ false; a comparison gives the fact on the numbers.
 use Prim.Native.Nat.{ℕ, _<_, _≤_}
 use mathlib.Core.Path.{_≡_, refl, sym, _∙_}
-use mathlib.Core.Bool.{Bool, true, false, _&&_, _||_, true≢false, false≢true}
+use mathlib.Core.Bool.{Bool, true, false, not, _&&_, _||_, true≢false, false≢true}
 use mathlib.Core.Logic.{_⊎_, inl, inr, ⊎-elim}
 use native.Mathlib.Omega.{arith}
 use lib.Dec.{ltb, leb, eqb}
@@ -52,6 +52,10 @@ or-yes false b e = inr e
 pub and-yes : (a b : Bool) → (a && b) ≡ true → (a ≡ true) × (b ≡ true)
 and-yes true b e = (refl, e)
 and-yes false b e = absurd (false≢true e)
+
+pub not-no : (b : Bool) → not b ≡ false → b ≡ true
+not-no true e = refl
+not-no false e = absurd (true≢false e)
 
 pub true-or-false : (b : Bool) → (b ≡ true) ⊎ (b ≡ false)
 true-or-false true = inl refl

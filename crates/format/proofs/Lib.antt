@@ -5,3 +5,12 @@ pub mod Areas
 pub mod Answers
 pub mod Mistakes
 pub mod Unused
+pub mod Picked
+pub mod Inside
+pub mod LowestGrain
+pub mod BytesAt
+pub mod HeaderSizes
+pub mod HeaderFooter
+pub mod HeaderKdmv
+pub mod HeaderCowd
+pub mod HeaderJudged

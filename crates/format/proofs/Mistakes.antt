@@ -1,14 +1,12 @@
 -- Mistakes that document 01 shuts out, as laws. That unused entries refuse no image is in `Unused`.
-use Prim.Native.Nat.{ℕ, _+_, _<_, _^_}
-use mathlib.Core.Path.{_≡_, refl, sym, _∙_}
+use Prim.Native.Nat.{ℕ, _+_, _<_}
+use mathlib.Core.Path.{_≡_, refl}
 use mathlib.Core.List.{List, [], _∷_}
-use mathlib.Core.Bool.{Bool, true, false, not, _||_, false≢true}
-use mathlib.Core.Logic.{⊎-elim}
+use mathlib.Core.Bool.{true, false, not}
 use native.Mathlib.Omega.{arith}
-use lib.Dec.{ltb, eqb}
 use borrow.Author.Tests.{eqb-true, lt-ltb}
 use Rattle.base.specs.Pick.{pick}
-use Rattle.base.proofs.Steps.{true-or-false}
+use Rattle.base.proofs.Steps.{not-no}
 use Rattle.format.specs.Entries.{entryAt, meaning, grainEntry, grainSectors}
 use Rattle.format.specs.Areas.{area, named, grainArea, runsPast}
 use Rattle.format.specs.Check.{tablesDiffer}
@@ -23,10 +21,6 @@ use Rattle.format.specs.declared.ChainAnswer.the-variants.{Found}
 use Rattle.format.proofs.Entries.{some-no}
 
 -- stopping a comparison at a zero byte: tables that do not differ are equal in every entry that is compared
-not-no : (b : Bool) → not b ≡ false → b ≡ true
-not-no true e = refl
-not-no false e = absurd (false≢true (sym e))
-
 pub all-compared : (s : List ℕ) (t u n : ℕ) → tablesDiffer s t u n ≡ false → (k : ℕ) → k < n → entryAt s t k ≡ entryAt s u k
 all-compared s t u n e k h = eqb-true _ _ (not-no _ (some-no _ _ e k (omega arith)))
 

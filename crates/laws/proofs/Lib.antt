@@ -1,1 +1,11 @@
 pub mod Examples
+pub mod AcceptedPlaces
+pub mod AcceptedCopies
+pub mod AcceptedMarkers
+pub mod AcceptedLayout
+pub mod AcceptedImage
+pub mod AcceptedSmall
+pub mod ServedLookup
+pub mod ServedBytes
+pub mod ServedSectors
+pub mod ServedChain
