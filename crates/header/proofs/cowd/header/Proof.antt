@@ -1,0 +1,13 @@
+use Rattle.header.proofs.Records.{header-eq}
+use Rattle.format.specs.Header.{cowdHeader}
+use borrow.Author.Needs.{needs}
+use Rattle.header.proofs.cowd.header.Statement.{statement}
+use Rattle.header.proofs.cowd.header.Tie as tie
+
+pub header-spec : {M : Type 1} → statement M
+unfolding cowdHeader
+header-spec =
+    tie.close
+    (tie.spec
+    (λ directory-sectors-requires κs. search needs)
+    (λ returns. search header-eq))

@@ -1,0 +1,14 @@
+use Rattle.header.proofs.Records.{header-eq}
+use Rattle.format.specs.Header.{kdmvHeader}
+use borrow.Author.Needs.{needs}
+use Rattle.header.proofs.kdmv.header.Statement.{statement}
+use Rattle.header.proofs.kdmv.header.Tie as tie
+
+pub header-spec : {M : Type 1} → statement M
+unfolding kdmvHeader
+header-spec =
+    tie.close
+    (tie.spec
+    (λ directory-entries-requires κs. search needs)
+    (λ directory-sectors-requires κs. search needs)
+    (λ c. rw (← c .before .before .before .directory-entries .ensures .0) (search header-eq)))

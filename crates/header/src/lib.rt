@@ -1,0 +1,25 @@
+// Judging a header: refusals 1 to 7, of both kinds, and the one record that all calls pass round.
+ghost use mathlib.Core.Path.{_≡_};
+ghost use Rattle.format.specs.Header.{judge};
+use format::HeaderAnswer;
+use format::Refusal;
+
+mod cowd;
+mod kdmv;
+pub mod sizes;
+
+// The header of an image of either kind, or the first of 1 to 7 that it breaks.
+pub fn judge(image: &[u8]) -> HeaderAnswer
+    ensures { λ r. ⌜ r ≡ judge (now (image .entry)) ⌝ }
+{
+    if image.len() < 4 {
+        return HeaderAnswer::Refused(Refusal::TooShort);
+    }
+    if base::same_at(image, 0, b"KDMV") {
+        return kdmv::judge(image);
+    }
+    if base::same_at(image, 0, b"COWD") {
+        return cowd::judge(image);
+    }
+    HeaderAnswer::Refused(Refusal::Magic)
+}
