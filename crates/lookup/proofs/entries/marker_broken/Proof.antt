@@ -1,0 +1,16 @@
+use Rattle.lookup.proofs.Laws.{first-fits}
+use Rattle.format.specs.Entries.{markerBroken}
+use borrow.Author.Needs.{needs}
+use Rattle.lookup.proofs.entries.marker_broken.Statement.{statement}
+use Rattle.lookup.proofs.entries.marker_broken.Tie as tie
+
+pub marker-broken-spec : {M : Type 1} → statement M
+unfolding markerBroken
+marker-broken-spec =
+    tie.close
+    (tie.spec
+    (λ marker-size-requires κs. search needs)
+    (λ mul-u64-at. search needs)
+    (λ u64-at-requires κs. search needs)
+    (λ mul-result. search first-fits)
+    (λ returns. cc))

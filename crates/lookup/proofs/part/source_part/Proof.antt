@@ -1,0 +1,23 @@
+use Rattle.lookup.proofs.Served.{stored-inside, packed-inside, bytes-as}
+use Rattle.format.specs.Source.{sourceBytes}
+use borrow.Author.Needs.{needs}
+use Rattle.lookup.proofs.part.source_part.Statement.{statement}
+use Rattle.lookup.proofs.part.source_part.Tie as tie
+
+pub source-part-spec : {M : Type 1} → statement M
+unfolding sourceBytes
+source-part-spec =
+    tie.close
+    (tie.spec
+    (λ enum-told. search needs)
+    (λ nothing-requires κs. search needs)
+    (λ enum-told-2. search needs)
+    (λ nothing-requires-2 κs. search needs)
+    (λ enum-known-source. search needs)
+    (λ stored-part-requires κs. search stored-inside)
+    (λ enum-known-source-2. search needs)
+    (λ packed-part-requires κs. search packed-inside)
+    (λ returns. search bytes-as)
+    (λ returns-2. search bytes-as)
+    (λ returns-3. search bytes-as)
+    (λ returns-4. search bytes-as))
