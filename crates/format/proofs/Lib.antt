@@ -14,3 +14,5 @@ pub mod HeaderFooter
 pub mod HeaderKdmv
 pub mod HeaderCowd
 pub mod HeaderJudged
+pub mod Places
+pub mod Filed

@@ -1,23 +1,19 @@
 -- The check accepts an image exactly when every layout rule holds. Demand 2, first sentence.
-use Prim.Native.Nat.{ℕ, _≤_}
+use Prim.Native.Nat.{ℕ}
 use mathlib.Core.Path.{_≡_, refl, _∙_}
 use mathlib.Core.List.{List}
-use mathlib.Core.Bool.{true, false≢true}
 use mathlib.Core.Logic.{⊎-elim}
 use native.Mathlib.Omega.{arith}
-use borrow.Author.Tests.{eqb-true}
-use Rattle.format.specs.Geometry.{fileSectors}
-use Rattle.format.specs.Kdmv.{kdmvFields}
-use Rattle.format.specs.Cowd.{cowdFields}
-use Rattle.format.specs.Header.{kdmvHeader, cowdHeader, kdmvHeaderOf, cowdHeaderOf, headerOf, judge}
+use Rattle.format.specs.Header.{kdmvHeaderOf, cowdHeaderOf, headerOf, judge}
 use Rattle.format.specs.Check.{checkLayout, checkFrom, check}
-use Rattle.format.specs.Accepted.{KdmvRules, CowdRules, Accepted}
+use Rattle.format.specs.Accepted.{Accepted}
 use Rattle.format.specs.Accepted.Accepted.{kdmv, cowd}
 use Rattle.format.specs.declared.Header.{Header}
 use Rattle.format.specs.declared.HeaderAnswer.{HeaderAnswer}
 use Rattle.format.specs.declared.HeaderAnswer.the-variants.{Known, Refused as unknown}
 use Rattle.format.specs.declared.CheckAnswer.the-variants.{Accepted as accepted}
-use Rattle.format.proofs.HeaderJudged.{judged-rules, kdmv-known, cowd-known, kdmv-is, cowd-is}
+use Rattle.format.proofs.HeaderJudged.{judged-rules, judged-header, kdmv-known, cowd-known, kdmv-is, cowd-is}
+use Rattle.format.proofs.Filed.{judged-front}
 use Rattle.laws.proofs.AcceptedLayout.{layout-sound, layout-complete}
 
 -- ---- what the check of an image with a known header is
@@ -30,43 +26,14 @@ known-check : (s : List ℕ) (h : Header) → judge s ≡ Known h → check s �
 unfolding checkFrom
 known-check s h e = rw e
 
--- every layout rule holds, and the check tells the header's capacity and grain size
-abbrev Told : List ℕ → ℕ → ℕ → Type 0
-Told s c g = (Accepted s) × (c ≡ headerOf s .capacity) × (g ≡ headerOf s .«grain_size»)
-
 module _ (s : List ℕ) where
-  kdmv-front : KdmvRules s (kdmvFields s) → kdmvHeaderOf s .«header_sectors» ≤ fileSectors s
-  unfolding kdmvHeader
-  kdmv-front r = omega (arith, r .long)
-
-  kdmv-back : KdmvRules s (kdmvFields s) → kdmvHeaderOf s .footer ≡ true → 2 ≤ fileSectors s
-  unfolding kdmvHeader
-  kdmv-back r t = let e = r .atEnd (eqb-true _ _ t) in omega (arith, e .1 .long)
-
-  cowd-front : CowdRules s (cowdFields s) → cowdHeaderOf s .«header_sectors» ≤ fileSectors s
-  unfolding cowdHeader
-  cowd-front r = omega (arith, r .long)
-
-  cowd-back : cowdHeaderOf s .footer ≡ true → 2 ≤ fileSectors s
-  unfolding cowdHeader
-  cowd-back t = absurd (false≢true t)
-
-  module _ (c g : ℕ) where
-    kdmv-told : KdmvRules s (kdmvFields s) → checkLayout s (kdmvHeaderOf s) ≡ accepted c g → Told s c g
-    kdmv-told r e =
-        let l = layout-sound s (kdmvHeaderOf s) (kdmv-front r) (kdmv-back r) c g e in
-        (kdmv r (l .0), rw (kdmv-is s r) (l .1), rw (kdmv-is s r) (l .2))
-
-    cowd-told : CowdRules s (cowdFields s) → checkLayout s (cowdHeaderOf s) ≡ accepted c g → Told s c g
-    cowd-told r e =
-        let l = layout-sound s (cowdHeaderOf s) (cowd-front r) cowd-back c g e in
-        (cowd r (l .0), rw (cowd-is s r) (l .1), rw (cowd-is s r) (l .2))
-
-    -- what the check accepts keeps every layout rule, and it tells the header's capacity and grain size
-    pub accepted-sound : check s ≡ accepted c g → (Accepted s) × (c ≡ headerOf s .capacity) × (g ≡ headerOf s .«grain_size»)
-    accepted-sound e =
-        let k = from-known s (judge s) c g e in
-        ⊎-elim (λ r. kdmv-told (r .0) (rw (r .1) at (k .2))) (λ r. cowd-told (r .0) (rw (r .1) at (k .2))) (judged-rules s (k .0) (k .1))
+  -- what the check accepts keeps every layout rule, and it tells the header's capacity and grain size
+  pub accepted-sound : (c g : ℕ) → check s ≡ accepted c g → (Accepted s) × (c ≡ headerOf s .capacity) × (g ≡ headerOf s .«grain_size»)
+  accepted-sound c g e =
+      let k = from-known s (judge s) c g e in
+      let l = layout-sound s (k .0) (judged-front s (k .0) (k .1)) c g (k .2) in
+      let is : k .0 ≡ headerOf s = judged-header s (k .0) (k .1) in
+      (⊎-elim (λ r. kdmv (r .0) (rw (r .1) at (l .0))) (λ r. cowd (r .0) (rw (r .1) at (l .0))) (judged-rules s (k .0) (k .1)), rw is at (l .1), rw is at (l .2))
 
   -- an image that keeps every layout rule is accepted
   pub accepted-complete : Accepted s → check s ≡ accepted (headerOf s .capacity) (headerOf s .«grain_size»)

@@ -1,8 +1,8 @@
 -- 8 to 12: a header's image is accepted exactly where the area rules hold.
-use Prim.Native.Nat.{ℕ, _≤_}
+use Prim.Native.Nat.{ℕ}
 use mathlib.Core.Path.{_≡_, refl, _∙_}
-use mathlib.Core.List.{List, []}
-use mathlib.Core.Bool.{Bool, true, false}
+use mathlib.Core.List.{List}
+use mathlib.Core.Bool.{Bool, false}
 use native.Mathlib.Omega.{arith}
 use Rattle.base.specs.Pick.{pick}
 use Rattle.format.specs.Geometry.{fileSectors}
@@ -19,9 +19,10 @@ use Rattle.format.specs.declared.CheckAnswer.{CheckAnswer}
 use Rattle.format.specs.declared.CheckAnswer.the-variants.{Accepted, Refused}
 use Rattle.format.proofs.Areas.{meet-apart, apart-meet}
 use Rattle.format.proofs.Picked.{pick-else, passed}
-use Rattle.format.proofs.Inside.{in-one, none-in, each-in, in-each, rows-in, in-rows, in-there, Inside, groups-in, in-groups}
-use Rattle.format.proofs.LowestGrain.{none-lowest, lowest-none}
-use Rattle.laws.proofs.AcceptedPlaces.{Places, places-kept, kept-places}
+use Rattle.format.proofs.Inside.{each-in, in-each, rows-in, groups-in, in-groups}
+use Rattle.format.proofs.LowestGrain.{lowest-none}
+use Rattle.format.proofs.Filed.{Fronted, inside-all}
+use Rattle.format.proofs.Places.{Places, places-kept, kept-places}
 use Rattle.laws.proofs.AcceptedCopies.{copies-kept, kept-copies}
 use Rattle.laws.proofs.AcceptedMarkers.{markers-kept, kept-markers}
 
@@ -69,39 +70,22 @@ module _ (s : List ℕ) (h : Header) where
       }
 
   -- ---- where the header's own areas lie in the file, the check finds all that the rules say
-  module _ (front : h .«header_sectors» ≤ fileSectors s) (back : h .footer ≡ true → 2 ≤ fileSectors s) where
-    placed : (c g : ℕ) → Passed c g → Inside s h
-    placed c g p =
-        let f = fileSectors s in
-        let q = places-kept s h (p .places) in
+  -- what is not refused 8 to 12 keeps the area rules
+  pub layout-sound : Fronted s h → (c g : ℕ) → checkLayout s h ≡ Accepted c g → (AreaRules s h) × (c ≡ h .capacity) × (g ≡ h .«grain_size»)
+  layout-sound b c g e =
+      let p = check-passed c g e in
+      let q = places-kept s h (p .places) in (
         record {
-          header = in-one f _ [] (omega arith) (none-in f);
-          descriptor = q .descriptor;
-          directory = q .directory;
-          redundant = q .redundant;
-          tables = q .tables;
-          copies = q .copies;
-          footer = in-there f (h .footer) _ (λ t. omega (arith, back t));
-          last = in-there f (h .footer) _ (λ t. omega (arith, back t));
-          grains = in-rows f (grainsOf h) (grainArea s h) (none-lowest (grainPast s h) (grainsOf h) (p .grains));
-        }
-
-    -- what is not refused 8 to 12 keeps the area rules
-    pub layout-sound : (c g : ℕ) → checkLayout s h ≡ Accepted c g → (AreaRules s h) × (c ≡ h .capacity) × (g ≡ h .«grain_size»)
-    layout-sound c g e =
-        let p = check-passed c g e in
-        let q = places-kept s h (p .places) in (
-          record {
-            descriptor = q .both;
-            directory = q .some;
-            inside = each-in (fileSectors s) (areas s h) (in-groups s h (placed c g p));
-            markers = markers-kept s h (p .markers);
-            copies = copies-kept s h (p .copies);
-            apart = meet-apart (areas s h) (p .apart);
-          },
-          p .capacity,
-          p .size,
-        )
+          descriptor = q .both;
+          directory = q .some;
+          inside = each-in (fileSectors s) (areas s h) (in-groups s h (inside-all s h b (p .places) (p .grains)));
+          markers = markers-kept s h (p .markers);
+          copies = copies-kept s h (p .copies);
+          apart = meet-apart (areas s h) (p .apart);
+        },
+        p .capacity,
+        p .size,
+      )
 
   -- ---- the other way: what keeps the area rules is not refused 8 to 12
   pub layout-complete : AreaRules s h → checkLayout s h ≡ Accepted (h .capacity) (h .«grain_size»)

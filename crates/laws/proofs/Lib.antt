@@ -1,5 +1,4 @@
 pub mod Examples
-pub mod AcceptedPlaces
 pub mod AcceptedCopies
 pub mod AcceptedMarkers
 pub mod AcceptedLayout

@@ -18,7 +18,7 @@ use Rattle.format.specs.declared.LookupAnswer.the-variants.{Found, Refused}
 use Rattle.format.proofs.Geometry.{grain-of, entry-used}
 use Rattle.format.proofs.Picked.{pick-then, pick-else, no-and}
 use Rattle.format.proofs.Inside.{in-each, rows-in, named-in, Inside, groups-in}
-use Rattle.laws.proofs.AcceptedPlaces.{kept-directory}
+use Rattle.format.proofs.Places.{kept-directory}
 use Rattle.laws.proofs.AcceptedMarkers.{kept-marker}
 
 -- 20: sector at or past the end
