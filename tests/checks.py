@@ -1,0 +1,141 @@
+#!/usr/bin/env python3
+"""Writes the inputs that the program `vmdk_check` is run on, and the line that it must print for each: tests/checks/NAME and
+NAME.line.
+
+Each verdict is document 01's, written down by hand: a case at least for each refusal number that the program can give, both
+sides of each edge.
+"""
+import pathlib
+
+from images import ALL_ONES, FOOTER, PACKED, SECTOR, STREAM, cowd, entries, image, kdmv, marker, small, stream
+
+CASES = {}
+
+
+def case(name, data, line):
+    assert name not in CASES
+    CASES[name] = (data, line)
+
+
+def accepted(name, data, capacity=16, size=8):
+    case(name, data, f"accepted {capacity} {size}")
+
+
+def refused(name, data, number, place=0):
+    case(name, data, f"refused {number} {place}")
+
+
+# ---- headers
+refused("empty", b"", 1)
+refused("three-bytes", b"KDM", 1)
+refused("kdmv-511", kdmv()[:511], 1)
+refused("cowd-2047", cowd()[:2047], 1)
+refused("other-magic", b"VMDK" + bytes(4092), 2)
+refused("version-0", small(0, 0, head=kdmv(version=0)), 3)
+accepted("version-3", small(0, 0, head=kdmv(version=3)))
+refused("version-4", small(0, 0, head=kdmv(version=4)), 3)
+refused("cowd-version-2", image(37, (0, cowd(version=2)), (4, entries(5))), 3)
+refused("newline", small(0, 0, head=kdmv(newline=b"\r \n\n")), 4)
+accepted("newline-not-tested", small(0, 0, head=kdmv(newline=b"\r \n\n", flags=0)))
+refused("flag-8", small(0, 0, head=kdmv(flags=9)), 5)
+refused("compression-unflagged", small(0, 0, head=kdmv(compression=1)), 5)
+refused("markers-alone", small(0, 0, head=kdmv(flags=0x20001)), 5)
+refused("redundant-missing", small(0, 0, head=kdmv(flags=3)), 5)
+refused("end-without-markers", small(0, 0, head=kdmv(directory=ALL_ONES)), 5)
+refused("capacity-0", small(0, 0, head=kdmv(0)), 6)
+refused("capacity-high", small(0, 0, head=kdmv(2**31 + 1)), 6)
+for size in (4, 12, 4096):
+    refused(f"grain-size-{size}", small(0, 0, head=kdmv(size=size)), 6)
+refused("entries-511", small(0, 0, head=kdmv(entries=511)), 6)
+refused("cowd-count-low", image(64, (0, cowd(4097, 1, count=1))), 6)
+accepted("stream", stream())
+refused("stream-cut", stream()[:-1], 7)
+refused("stream-last-byte", stream(last=bytes(511) + b"\1"), 7)
+refused("stream-footer-byte", stream(footer=FOOTER[:511] + b"\1"), 7)
+refused("stream-again", stream(footer=STREAM), 7)
+
+# ---- 8
+refused("descriptor-no-sector", small(0, 0, head=kdmv(descriptor=(0, 1))), 8)
+refused("descriptor-no-size", small(0, 0, head=kdmv(descriptor=(6, 0))), 8)
+accepted("descriptor-at-end", small(0, 0, head=kdmv(descriptor=(6, 10))))
+refused("descriptor-past", small(0, 0, head=kdmv(descriptor=(6, 11))), 8)
+refused("descriptor-wraps", small(0, 0, head=kdmv(descriptor=(2**64 - 1, 2))), 8)
+refused("directory-0", small(0, 0, head=kdmv(directory=0)), 8)
+refused("directory-past", small(0, 0, head=kdmv(directory=16)), 8)
+refused("directory-wraps", small(0, 0, head=kdmv(directory=2**64 - 2)), 8)
+refused("redundant-past", small(0, 0, head=kdmv(redundant=16)), 8)
+accepted("table-at-end", image(6, (0, kdmv()), (1, entries(2))))
+refused("table-past", image(6, (0, kdmv()), (1, entries(3))), 8)
+refused("redundant-table-past", image(16, (0, kdmv(redundant=6)), (1, entries(2)), (6, entries(13))), 8)
+accepted("directory-entry-1", image(16, (0, kdmv()), (1, entries(1))))
+
+# ---- 9 and 10
+accepted("grain-at-end", small(8, 0))
+refused("grain-past", small(9, 0), 9)
+refused("grain-past-second", small(8, 16), 9, 1)
+refused("grains-past-lowest", small(16, 17), 9, 0)
+refused("grain-past-in-last", small(0, 8, head=kdmv(capacity=9), sectors=15), 9, 1)
+accepted("packed", image(7, (0, PACKED), (1, entries(2)), (2, entries(6, 0)), (6, marker(0, 500))))
+refused("packed-past", image(7, (0, PACKED), (1, entries(2)), (2, entries(6, 0)), (6, marker(0, 501))), 9)
+refused("packed-marker-past", image(7, (0, PACKED), (1, entries(2)), (2, entries(0, 7))), 9, 1)
+refused("packed-empty", image(7, (0, PACKED), (1, entries(2)), (2, entries(6, 0)), (6, marker(0, 0))), 10)
+refused("packed-other-grain", image(7, (0, PACKED), (1, entries(2)), (2, entries(0, 6)), (6, marker(0, 5))), 10, 1)
+refused("past-before-marker", image(7, (0, PACKED), (1, entries(2)), (2, entries(6, 7)), (6, marker(9, 5))), 9, 1)
+
+
+# ---- 11
+def copied(primary, copy, directory=entries(2), redundant=entries(7), sectors=32):
+    return image(sectors, (0, kdmv(redundant=6)), (1, directory), (2, primary), (6, redundant), (7, copy))
+
+
+accepted("copies", copied(entries(16, 1), entries(16, 1)))
+refused("copies-differ", copied(entries(16, 1), entries(16, 0)), 11)
+refused("copies-differ-past-zero", copied(entries(0, 16), entries(0, 24)), 11)
+accepted("copies-differ-unused", copied(entries(16, 1, 5), entries(16, 1, 6)))
+refused("copies-zero-and-absent", copied(b"", b"", entries(1), entries(0)), 11)
+refused("copies-table-and-zero", copied(entries(0, 0), b"", entries(2), entries(1)), 11)
+accepted("copies-both-zero", copied(b"", b"", entries(1), entries(1)))
+
+# ---- 12
+refused("two-grains-on-one", small(8, 8), 12)
+refused("grains-overlap", small(8, 15, sectors=23), 12)
+accepted("grains-touch", small(8, 16, sectors=24))
+refused("grain-on-table", small(4, 0), 12)
+refused("grain-on-header", image(64, (0, cowd(4, 1)), (4, entries(5)), (5, entries(1))), 12)
+refused("table-twice", image(16, (0, kdmv(8192 * 8, 8)), (1, entries(2, 2))), 12)
+refused("redundant-is-primary", small(0, 0, head=kdmv(redundant=1)), 12)
+refused("descriptor-on-directory", small(0, 0, head=kdmv(descriptor=(1, 1))), 12)
+refused("descriptor-on-grain", small(8, 0, head=kdmv(descriptor=(15, 1))), 12)
+
+
+def described(at):
+    """A stream whose descriptor stands at a sector."""
+    both = {"flags": 0x30001, "compression": 1, "descriptor": (at, 1)}
+    return stream(head=kdmv(directory=ALL_ONES, **both), footer=kdmv(directory=1, **both))
+
+
+refused("footer-shared", described(7), 12)
+refused("last-sector-shared", described(8), 12)
+accepted("unused-entry", small(8, 0, 2**32 - 1))
+accepted("cowd", image(64, (0, cowd(16, 8)), (4, entries(5)), (5, entries(48, 56))))
+refused("cowd-grain-in-table", image(64, (0, cowd(16, 8)), (4, entries(5)), (5, entries(36, 56))), 12)
+
+# ---- lengths
+accepted("last-sector-cut", small(8, 0) + bytes(511))
+accepted("empty-disk", image(6, (0, kdmv(200, 128)), (1, entries(2))), 200, 128)
+accepted("full-buffer", small(8, 0, sectors=128))
+refused("over-full", small(8, 0, sectors=128) + b"\0", 37)
+
+
+def main():
+    folder = pathlib.Path(__file__).resolve().parent / "checks"
+    folder.mkdir(exist_ok=True)
+    for old in folder.iterdir():
+        old.unlink()
+    for name, (data, line) in CASES.items():
+        (folder / name).write_bytes(data)
+        (folder / f"{name}.line").write_text(line + "\n")
+    print(f"{len(CASES)} inputs, {sum(len(d) for d, _ in CASES.values())} bytes")
+
+
+main()

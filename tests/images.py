@@ -1,0 +1,47 @@
+"""Images built byte by byte, for the tests' cases. Nothing here reads an image."""
+import struct
+
+SECTOR = 512
+ALL_ONES = 2**64 - 1
+
+
+def kdmv(capacity=16, size=8, directory=1, version=1, flags=1, descriptor=(0, 0), entries=512, redundant=0,
+         newline=b"\n \r\n", compression=0):
+    head = b"KDMV" + struct.pack("<II", version, flags) + struct.pack("<QQQQ", capacity, size, *descriptor)
+    head += struct.pack("<IQQQ", entries, redundant, directory, 128) + b"\0" + newline + struct.pack("<H", compression)
+    return head.ljust(SECTOR, b"\0")
+
+
+def cowd(capacity=16, size=8, directory=4, count=1, version=1):
+    return (b"COWD" + struct.pack("<IIIIII", version, 3, capacity, size, directory, count)).ljust(4 * SECTOR, b"\0")
+
+
+def image(sectors, *parts, extra=0):
+    """An image of so many sectors, with parts (sector, bytes) laid over zeros."""
+    data = bytearray(sectors * SECTOR + extra)
+    for at, part in parts:
+        data[at * SECTOR:at * SECTOR + len(part)] = part
+    return bytes(data)
+
+
+def entries(*numbers):
+    return b"".join(struct.pack("<I", n) for n in numbers)
+
+
+def small(*grains, head=None, sectors=16):
+    """Capacity 16, grain size 8: the directory at sector 1 names the table at 2, which holds the grains' entries."""
+    return image(sectors, (0, head or kdmv()), (1, entries(2)), (2, entries(*grains)))
+
+
+def marker(first, size):
+    return struct.pack("<QI", first, size)
+
+
+PACKED = kdmv(flags=0x10001, compression=1)
+STREAM = kdmv(flags=0x30001, compression=1, directory=ALL_ONES)
+FOOTER = kdmv(flags=0x30001, compression=1, directory=1)
+
+
+def stream(footer=FOOTER, last=bytes(SECTOR), head=STREAM, extra=0):
+    """A packed grain 0 and a zero grain 1, with the directory told by a footer."""
+    return image(9, (0, head), (1, entries(2)), (2, entries(6, 1)), (6, marker(0, 5)), (7, footer), (8, last), extra=extra)
