@@ -1,0 +1,50 @@
+-- The check's steps, each premise as the code gives it.
+use Prim.Native.Nat.{ℕ}
+use mathlib.Core.Path.{_≡_, refl, sym, _∙_}
+use mathlib.Core.List.{List}
+use mathlib.Core.Bool.{Bool, false}
+use Rattle.format.specs.Header.{judge}
+use Rattle.format.specs.Check.{misplaced, lowestPast, unlessGrain, checkFrom}
+use Rattle.format.specs.declared.Header.{Header}
+use Rattle.format.specs.declared.Lowest.{Lowest}
+use Rattle.format.specs.declared.Lowest.the-variants.{None, Grain}
+use Rattle.format.specs.declared.Refusal.{Refusal}
+use Rattle.format.specs.declared.HeaderAnswer.{HeaderAnswer}
+use Rattle.format.specs.declared.HeaderAnswer.the-variants.{Known}
+use Rattle.format.specs.declared.CheckAnswer.{CheckAnswer}
+use Rattle.format.specs.declared.CheckAnswer.the-variants.{Refused}
+use Rattle.format.proofs.Filed.{all-in-file}
+use Rattle.header.specs.Sized.{Sound}
+use Rattle.header.proofs.Sound.{judged-sound}
+use Rattle.overlap.specs.Placed.{InFile}
+use Rattle.accept.specs.Placed.{Placed, Filed}
+
+-- ---- what is known on the way
+module _ (s : List ℕ) (h : Header) where
+  pub sound-of : judge s ≡ Known h → Sound h
+  sound-of e = judged-sound (judge s) s h refl e
+
+  pub placed-of : {r : Bool} → judge s ≡ Known h → r ≡ misplaced s h → r ≡ false → Placed s h
+  placed-of e q f = record { sound = sound-of e; kept = sym q ∙ f }
+
+  pub filed-of : (l : Lowest) → Placed s h → l ≡ lowestPast s h → l ≡ None → Filed s h
+  filed-of l p q n = record { placed = p; none = sym q ∙ n }
+
+  pub in-file : judge s ≡ Known h → Filed s h → InFile s h
+  in-file e f = record { sound = f .placed .sound; inside = all-in-file s h e (f .placed .kept) (f .none) }
+
+-- ---- at an arm of a match
+module _ (z a : CheckAnswer) (l e : Lowest) (refusal : ℕ → Refusal) (is : l ≡ e) where
+  pub grain-found : (g : ℕ) → l ≡ Grain g → z ≡ Refused (refusal g) → z ≡ unlessGrain e refusal a
+  unfolding unlessGrain
+  grain-found g q t = rw (← is, q) t
+
+  pub grain-none : l ≡ None → z ≡ a → z ≡ unlessGrain e refusal a
+  unfolding unlessGrain
+  grain-none q t = rw (← is, q) t
+
+pub judged-as : (s : List ℕ) (z : CheckAnswer) (a r v : HeaderAnswer) → r ≡ a → r ≡ v → z ≡ checkFrom s v → z ≡ checkFrom s a
+judged-as s z a r v e q t = rw (← e, q) t
+
+pub judged-known : (s : List ℕ) (a : HeaderAnswer) (h : Header) → a ≡ judge s → a ≡ Known h → judge s ≡ Known h
+judged-known s a h e q = sym e ∙ q

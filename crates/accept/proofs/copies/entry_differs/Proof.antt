@@ -1,0 +1,14 @@
+use Rattle.accept.proofs.CopiesLaws.{room-used}
+use borrow.Author.Needs.{needs}
+use Rattle.accept.proofs.copies.entry_differs.Statement.{statement}
+use Rattle.accept.proofs.copies.entry_differs.Tie as tie
+
+pub entry-differs-spec : {M : Type 1} → statement M
+entry-differs-spec =
+    tie.close
+    (tie.spec
+    (λ entries-in-use-requires κs. search needs)
+    (λ table-at-requires κs. search needs)
+    (λ table-at-requires-2 κs. search needs)
+    (λ copy-differs-requires κs. (search room-used, search room-used))
+    (λ returns. cc))

@@ -1,0 +1,11 @@
+use borrow.Author.Needs.{needs}
+use Rattle.accept.proofs.places.entry_past.Statement.{statement}
+use Rattle.accept.proofs.places.entry_past.Tie as tie
+
+pub entry-past-spec : {M : Type 1} → statement M
+entry-past-spec =
+    tie.close
+    (tie.spec
+    (λ table-at-requires κs. search needs)
+    (λ named-past-requires κs. search needs)
+    (λ returns. cc))

@@ -1,0 +1,28 @@
+-- `areas_meet`: the invariant says that no sector below lo lies in two areas.
+use Prim.Native.Nat.{_+_, _-_, _≤_}
+use Rattle.format.specs.Areas.{areas}
+use Rattle.overlap.proofs.Windows.{Clear, clear-start, clear-more, clear-met, clear-end}
+use borrow.Author.Needs.{needs}
+use Rattle.overlap.proofs.areas_meet.Statement.{statement}
+use Rattle.overlap.proofs.areas_meet.Tie as tie
+
+abbrev Inv-loop : tie.InvT-loop
+Inv-loop image h sectors lo₀ lo = (lo ≤ sectors + 4194304) × Clear (areas image h) lo
+
+abbrev μ-loop : tie.MeasureT-loop
+μ-loop image h sectors lo₀ lo = sectors - lo
+
+pub areas-meet-spec : {M : Type 1} → statement M
+areas-meet-spec =
+    tie.close
+    (tie.spec
+    Inv-loop
+    μ-loop
+    (λ file-sectors-requires κs. search needs)
+    (λ loop-holds. (search needs, search clear-start))
+    (λ window-meets-requires κs. search needs)
+    (λ returns. search clear-met)
+    (λ add-lo. search needs)
+    (λ loop-less. search needs)
+    (λ loop-again. (search needs, search clear-more))
+    (λ returns-2. search clear-end))

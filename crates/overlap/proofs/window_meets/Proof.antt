@@ -1,0 +1,13 @@
+-- `window_meets`: a run from words of 0 on tells of one window.
+use Rattle.overlap.proofs.Told.{window-told}
+use borrow.Author.Needs.{needs}
+use Rattle.overlap.proofs.window_meets.Statement.{statement}
+use Rattle.overlap.proofs.window_meets.Tie as tie
+
+pub window-meets-spec : {M : Type 1} → statement M
+window-meets-spec =
+    tie.close
+    (tie.spec
+    (λ slice-aggregate-mark-all. search needs)
+    (λ c κs. (search needs, c .before .before .pre))
+    (λ c. window-told _ (c .before .mark-all .ensures)))

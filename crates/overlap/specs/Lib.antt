@@ -1,0 +1,3 @@
+pub mod Run
+pub mod Named
+pub mod Placed
