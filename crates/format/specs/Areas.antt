@@ -7,7 +7,7 @@ use Rattle.base.specs.Pick.{pick}
 use Rattle.base.specs.Rows.{rows}
 use Rattle.format.specs.Geometry.{fileSectors}
 use Rattle.format.specs.Header.{grainsOf, entriesOf}
-use Rattle.format.specs.Entries.{tableAt, entryOf, grainSectors}
+use Rattle.format.specs.Entries.{tableAt, grainEntry, grainSectors}
 use Rattle.format.specs.declared.Header.{Header}
 use Rattle.format.specs.declared.Entry.{Entry}
 use Rattle.format.specs.declared.Entry.the-variants.{Absent, Zero, Sector}
@@ -67,8 +67,7 @@ lastArea s h = ifThere (h .footer) (area (fileSectors s - 1) 1)
 -- every grain, as the primary tables name it
 abbrev pub grainArea : List ℕ → Header → ℕ → List Area
 grainArea s h g =
-    named (grainSectors s (h .packed) (h .«grain_size»))
-    (entryOf s (h .«one_is_zero») (h .«entries_per_table») (h .directory) g)
+    named (grainSectors s (h .packed) (h .«grain_size»)) (grainEntry s h g)
 
 abbrev pub grainAreas : List ℕ → Header → List Area
 grainAreas s h = rows (grainsOf h) (grainArea s h)

@@ -3,6 +3,7 @@ use Prim.Native.Nat.{ℕ}
 use mathlib.Core.List.{List}
 use mathlib.Core.Bool.{Bool, _||_}
 use lib.Dec.{ltb}
+use lib.ListN.{length}
 use Rattle.base.specs.Pick.{pick}
 use Rattle.base.specs.Bytes.{over}
 use Rattle.format.specs.Header.{headerOf}
@@ -18,6 +19,7 @@ use Rattle.format.specs.declared.CollapseAnswer.{CollapseAnswer}
 use Rattle.format.specs.declared.CollapseAnswer.the-variants.{Written, Refused}
 
 -- ---- the images: the layout of the map, or of the two maps merged
+-- the map of an uncompressed image; 23 refuses any other before its map counts
 abbrev pub mapOf : List ℕ → Map
 mapOf s = grainMap s (headerOf s)
 
@@ -69,3 +71,9 @@ collapse lower upper room =
 unfoldable pub output : CollapseAnswer → List ℕ → List ℕ → List ℕ
 output (Written long) image out = over out 0 image
 output (Refused r) image out = out
+
+abbrev pub normalOutput : List ℕ → List ℕ → List ℕ
+normalOutput s out = output (normal s (length out)) (normalForm s) out
+
+abbrev pub collapseOutput : List ℕ → List ℕ → List ℕ → List ℕ
+collapseOutput lower upper out = output (collapse lower upper (length out)) (collapsed lower upper) out

@@ -57,8 +57,7 @@ grainSectors s packed size e = pick packed (ceil (12 + markerSize s e) 512) size
 unfoldable pub markerBroken : List ℕ → ℕ → ℕ → ℕ → Bool
 markerBroken s size g e = eqb (markerSize s e) 0 || not (eqb (markerFirst s e) (g * size))
 
--- ---- numbers below n of which a rule says something
--- it is true of one of them
+-- ---- a rule that is broken by one of the numbers below n
 unfoldable pub some : (ℕ → Bool) → ℕ → Bool
 some broken zero = false
 some broken (suc n) = some broken n || broken n

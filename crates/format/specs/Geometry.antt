@@ -4,7 +4,7 @@ use mathlib.Core.List.{List}
 use lib.ListN.{length, take, drop}
 use Rattle.base.specs.Rounding.{ceil}
 
--- F: file length / 512 rounded down. Bytes from 512 x F on are never used
+-- F: file length / 512 rounded down. Bytes from 512 x F on are never used, but for the magic of a file of less than a sector (1 or 2)
 abbrev pub fileSectors : List ℕ → ℕ
 fileSectors s = length s / 512
 

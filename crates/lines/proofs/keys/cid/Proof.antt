@@ -1,0 +1,11 @@
+use borrow.Author.Needs.{needs}
+use Rattle.lines.proofs.keys.cid.Statement.{statement}
+use Rattle.lines.proofs.keys.cid.Tie as tie
+
+pub cid-spec : {M : Type 1} → statement M
+cid-spec =
+    tie.close
+    (tie.spec
+    (λ hex-requires κs. search needs)
+    (λ cid-is-requires κs. search needs)
+    (λ returns. cc))

@@ -1,0 +1,11 @@
+use borrow.Author.Needs.{needs}
+use Rattle.lines.proofs.keys.key_line.Statement.{statement}
+use Rattle.lines.proofs.keys.key_line.Tie as tie
+
+pub key-line-spec : {M : Type 1} → statement M
+key-line-spec =
+    tie.close
+    (tie.spec
+    (λ until-requires κs. search needs)
+    (λ split-at-requires κs. search needs)
+    (λ returns. cc))

@@ -1,0 +1,12 @@
+use borrow.Author.Needs.{needs}
+use Rattle.words.proofs.Parts.{front-long, front-short}
+use Rattle.words.proofs.before.Statement.{statement}
+use Rattle.words.proofs.before.Tie as tie
+
+pub before-spec : {M : Type 1} → statement M
+before-spec =
+    tie.close
+    (tie.spec
+    (λ until-requires κs. search needs)
+    (λ slice-aggregate-result. search front-long)
+    (λ returns. (cc, search front-short)))

@@ -1,0 +1,13 @@
+use borrow.Author.Needs.{needs}
+use Rattle.words.proofs.Parts.{end-inside}
+use Rattle.words.proofs.line_end.Statement.{statement}
+use Rattle.words.proofs.line_end.Tie as tie
+
+pub line-end-spec : {M : Type 1} → statement M
+line-end-spec =
+    tie.close
+    (tie.spec
+    (λ after-requires κs. search needs)
+    (λ until-requires κs. search needs)
+    (λ add-result. search needs)
+    (λ returns. (cc, search end-inside)))

@@ -1,0 +1,14 @@
+use borrow.Author.Needs.{needs}
+use Rattle.words.proofs.Parts.{part-from, part-short}
+use Rattle.words.proofs.rest.Statement.{statement}
+use Rattle.words.proofs.rest.Tie as tie
+
+pub rest-spec : {M : Type 1} → statement M
+rest-spec =
+    tie.close
+    (tie.spec
+    (λ until-requires κs. search needs)
+    (λ sub-result. search needs)
+    (λ part-result-start. search needs)
+    (λ part-result-end. search needs)
+    (λ returns. (search part-from, search part-short)))
