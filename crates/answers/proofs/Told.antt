@@ -1,12 +1,14 @@
 -- What an answer tells, at an arm of a match, and records by their fields.
 use Prim.Native.Nat.{ℕ}
 use mathlib.Core.Path.{_≡_}
-use Rattle.format.specs.Answers.{number, place, verdict, served, located, chained}
+use Rattle.format.specs.Answers.{number, place, head, verdict, served, located, chained}
 use Rattle.format.specs.declared.Refusal.{Refusal}
 use Rattle.format.specs.declared.Source.{Source}
+use Rattle.format.specs.declared.HeaderAnswer.{HeaderAnswer}
 use Rattle.format.specs.declared.CheckAnswer.{CheckAnswer}
 use Rattle.format.specs.declared.LookupAnswer.{LookupAnswer}
 use Rattle.format.specs.declared.ChainAnswer.{ChainAnswer}
+use Rattle.format.specs.declared.Head.{Head}
 use Rattle.format.specs.declared.Located.{Located}
 use Rattle.format.specs.declared.Verdict.{Verdict}
 
@@ -29,6 +31,9 @@ located-as = tell located
 pub chained-as : (z : Located) (r v : ChainAnswer) → r ≡ v → z ≡ chained v → z ≡ chained r
 chained-as = tell chained
 
+pub head-as : (z : Head) (r v : HeaderAnswer) → r ≡ v → z ≡ head v → z ≡ head r
+head-as = tell head
+
 pub verdict-as : (z : Verdict) (r v : CheckAnswer) → r ≡ v → z ≡ verdict v → z ≡ verdict r
 verdict-as = tell verdict
 
@@ -38,3 +43,6 @@ unserved-eq layer n p m q e f = λ i. record { number = e i; layer = layer; plac
 
 pub refused-eq : (n p m q : ℕ) → n ≡ m → p ≡ q → _≡_ {A = Verdict} (record { number = n; place = p; capacity = 0; «grain_size» = 0 }) (record { number = m; place = q; capacity = 0; «grain_size» = 0 })
 refused-eq n p m q e f = λ i. record { number = e i; place = f i; capacity = 0; «grain_size» = 0 }
+
+pub headless-eq : (n p m q : ℕ) → n ≡ m → p ≡ q → _≡_ {A = Head} (record { number = n; place = p; capacity = 0; «grain_size» = 0; descriptor = 0; «descriptor_sectors» = 0 }) (record { number = m; place = q; capacity = 0; «grain_size» = 0; descriptor = 0; «descriptor_sectors» = 0 })
+headless-eq n p m q e f = λ i. record { number = e i; place = f i; capacity = 0; «grain_size» = 0; descriptor = 0; «descriptor_sectors» = 0 }

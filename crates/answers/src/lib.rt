@@ -1,8 +1,10 @@
 // Answers in document 01's numbers, for whoever prints them or hands them on.
 ghost use mathlib.Core.Path.{_≡_};
-ghost use Rattle.format.specs.Answers.{number, place, verdict, served, unserved, located, chained};
+ghost use Rattle.format.specs.Answers.{number, place, head, verdict, served, unserved, located, chained};
 use format::ChainAnswer;
 use format::CheckAnswer;
+use format::Head;
+use format::HeaderAnswer;
 use format::Located;
 use format::LookupAnswer;
 use format::Refusal;
@@ -139,6 +141,29 @@ pub fn verdict_of(a: CheckAnswer) -> Verdict
             place: place_of(refusal),
             capacity: 0,
             grain_size: 0,
+        },
+    }
+}
+
+pub fn head_of(a: HeaderAnswer) -> Head
+    ensures { λ r. ⌜ r ≡ head a ⌝ }
+{
+    match a {
+        HeaderAnswer::Known(h) => Head {
+            number: 0,
+            place: 0,
+            capacity: h.capacity,
+            grain_size: h.grain_size,
+            descriptor: h.descriptor,
+            descriptor_sectors: h.descriptor_sectors,
+        },
+        HeaderAnswer::Refused(refusal) => Head {
+            number: number_of(refusal),
+            place: place_of(refusal),
+            capacity: 0,
+            grain_size: 0,
+            descriptor: 0,
+            descriptor_sectors: 0,
         },
     }
 }

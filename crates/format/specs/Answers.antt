@@ -1,9 +1,11 @@
 -- The answers in document 01's numbers: a refusal's number and place, and for each answer its values.
-use Prim.Native.Nat.{ℕ}
+use Prim.Native.Nat.{ℕ, _+_, _*_}
 use Rattle.format.specs.declared.Refusal.{Refusal}
 use Rattle.format.specs.declared.Refusal.the-variants.{TooShort, Magic, Version, Newline, Flags, Sizes, Footer, Misplaced, GrainPast, Marker, CopiesDiffer, SharedSector, SectorPast, TooLittleRoom, LayersDiffer, NotCollapsible, LayerLengths}
 use Rattle.format.specs.declared.Source.{Source}
 use Rattle.format.specs.declared.Source.the-variants.{Absent, Zero, Stored, Packed}
+use Rattle.format.specs.declared.HeaderAnswer.{HeaderAnswer}
+use Rattle.format.specs.declared.HeaderAnswer.the-variants.{Known, Refused as unknown}
 use Rattle.format.specs.declared.CheckAnswer.{CheckAnswer}
 use Rattle.format.specs.declared.CheckAnswer.the-variants.{Accepted, Refused as unaccepted}
 use Rattle.format.specs.declared.LookupAnswer.{LookupAnswer}
@@ -15,6 +17,8 @@ use Rattle.format.specs.declared.CollapseAnswer.the-variants.{Written as
 use Rattle.format.specs.declared.Verdict.{Verdict}
 use Rattle.format.specs.declared.Located.{Located}
 use Rattle.format.specs.declared.Written.{Written}
+use Rattle.format.specs.declared.Head.{Head}
+use Rattle.format.specs.declared.Part.{Part}
 
 -- ---- refusals: number and place
 abbrev pub number : Refusal → ℕ
@@ -56,6 +60,25 @@ place LayersDiffer = 0
 place NotCollapsible = 0
 place LayerLengths = 0
 
+-- ---- a header alone: the descriptor's numbers as it has them, 0 for COWD
+abbrev pub head : HeaderAnswer → Head
+head (Known h) = record {
+  number = 0;
+  place = 0;
+  capacity = h .capacity;
+  «grain_size» = h .«grain_size»;
+  descriptor = h .descriptor;
+  «descriptor_sectors» = h .«descriptor_sectors»;
+}
+head (unknown r) = record {
+  number = number r;
+  place = place r;
+  capacity = 0;
+  «grain_size» = 0;
+  descriptor = 0;
+  «descriptor_sectors» = 0;
+}
+
 -- ---- the check: capacity and grain size
 abbrev pub verdict : CheckAnswer → Verdict
 verdict (Accepted capacity size) = record { number = 0; place = 0; capacity = capacity; «grain_size» = size }
@@ -78,6 +101,17 @@ located (notFound r) = unserved 0 r
 abbrev pub chained : ChainAnswer → Located
 chained (foundIn a) = served (a .layer) (a .source)
 chained (notFoundIn layer r) = unserved layer r
+
+-- ---- the grain reader: where the bytes stand in the image, and how many; 0 and 0 where there are none
+abbrev pub sourcePart : Source → Part
+sourcePart Absent = record { at = 0; length = 0 }
+sourcePart Zero = record { at = 0; length = 0 }
+sourcePart (Stored s) = record { at = 512 * s; length = 512 }
+sourcePart (Packed m n o) = record { at = 512 * m + 12; length = n }
+
+abbrev pub part : LookupAnswer → Part
+part (Found source) = sourcePart source
+part (notFound r) = record { at = 0; length = 0 }
 
 -- ---- collapse and normal form: the result's length in bytes
 abbrev pub written : CollapseAnswer → Written

@@ -154,3 +154,21 @@ pub struct Written {
     pub place: u64,
     pub length: u64,
 }
+
+// A header judged alone, with the descriptor's numbers as it has them.
+#[repr(C)]
+pub struct Head {
+    pub number: u64,
+    pub place: u64,
+    pub capacity: u64,
+    pub grain_size: u64,
+    pub descriptor: u64,
+    pub descriptor_sectors: u64,
+}
+
+// The bytes of an image that the grain reader hands back: both 0 where there are none.
+#[repr(C)]
+pub struct Part {
+    pub at: u64,
+    pub length: u64,
+}

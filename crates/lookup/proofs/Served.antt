@@ -1,5 +1,5 @@
 -- What the lookup finds lies in the file.
-use Prim.Native.Nat.{ℕ, _+_, _-_, _*_, _≤_, _<_}
+use Prim.Native.Nat.{ℕ, _+_, _-_, _*_, _^_, _≤_, _<_}
 use mathlib.Core.Path.{_≡_, refl, sym, subst, _∙_}
 use mathlib.Core.List.{List}
 use mathlib.Core.Bool.{Bool, true, false}
@@ -12,7 +12,9 @@ use Rattle.base.proofs.Steps.{cond-all}
 use Rattle.format.specs.Geometry.{fileSectors, bytesAt}
 use Rattle.format.specs.Header.{judge}
 use Rattle.format.specs.Entries.{grainSectors}
-use Rattle.format.specs.Source.{grainSource, lookupGrain, lookupEntry, lookupTable, lookupIn, lookupFrom, lookup, sourceBytes, answerBytes}
+use Rattle.format.specs.Source.{grainSource, lookupGrain, lookupEntry, lookupTable, lookupIn, lookupFrom, lookup, sourceBytes, answerBytes, read}
+use Rattle.format.specs.Answers.{sourcePart, part}
+use Rattle.format.specs.declared.Part.{Part}
 use Rattle.format.specs.declared.Header.{Header}
 use Rattle.format.specs.declared.Entry.{Entry}
 use Rattle.format.specs.declared.Entry.the-variants.{Absent, Zero, Sector}
@@ -72,23 +74,49 @@ from-served s x (Known h) e = in-served s h (judged-sound (Known h) s h e refl) 
 found-of : {s : List ℕ} {source : Source} → Served s (Found source) → partEnd source ≤ length s
 found-of (found l) = l
 
-pub served-inside : (a : LookupAnswer) (s : List ℕ) (x : ℕ) (source : Source) → a ≡ lookup s x → a ≡ Found source → partEnd source ≤ length s
+served-inside : (a : LookupAnswer) (s : List ℕ) (x : ℕ) (source : Source) → a ≡ lookup s x → a ≡ Found source → partEnd source ≤ length s
 served-inside a s x source e q = found-of (subst (Served s) (sym e ∙ q) (from-served s x (judge s) refl))
 
+pub served-fits : (a : LookupAnswer) (s : List ℕ) (x : ℕ) (source : Source) → a ≡ lookup s x → a ≡ Found source → length s < 2 ^ 64 → partEnd source < 2 ^ 64
+served-fits a s x source e q l = omega (arith, served-inside a s x source e q)
+
 -- ---- at an arm of a match
-module _ (r : Source) (n : ℕ) (l : partEnd r ≤ n) where
-  pub stored-inside : (sector : ℕ) → r ≡ Stored sector → 512 * sector + 512 ≤ n
+module _ (r : Source) (n : ℕ) (l : partEnd r < n) where
+  pub stored-inside : (sector : ℕ) → r ≡ Stored sector → 512 * sector + 512 < n
   stored-inside sector e = rw e at l
 
-  pub packed-inside : (marker size o : ℕ) → r ≡ Packed marker size o → 512 * marker + 12 + size ≤ n
+  pub packed-inside : (marker size o : ℕ) → r ≡ Packed marker size o → 512 * marker + 12 + size < n
   packed-inside marker size o e = rw e at l
 
-pub bytes-as : (s z : List ℕ) (r v : Source) → r ≡ v → z ≡ sourceBytes s v → z ≡ sourceBytes s r
-bytes-as s z r v e t = rw e t
+pub source-as : (z : Part) (r v : Source) → r ≡ v → z ≡ sourcePart v → z ≡ sourcePart r
+source-as z r v e t = rw e t
 
-pub answer-as : (s z : List ℕ) (a r v : LookupAnswer) → r ≡ a → r ≡ v → z ≡ answerBytes s v → z ≡ answerBytes s a
-answer-as s z a r v e q t = rw (← e, q) t
+pub part-as : (z : Part) (a r v : LookupAnswer) → r ≡ a → r ≡ v → z ≡ part v → z ≡ part a
+part-as z a r v e q t = rw (← e, q) t
+
+-- ---- the part that the reader hands back
+served-end : (s : List ℕ) (a : LookupAnswer) → Served s a → part a .at + part a .length ≤ length s
+served-end s (Refused r) v = omega arith
+served-end s (Found source) (found l) = l
+
+pub part-inside : (r : Part) (s : List ℕ) (x : ℕ) → r ≡ part (lookup s x) → r .at + r .length ≤ length s
+part-inside r s x e = rw e (served-end s (lookup s x) (from-served s x (judge s) refl))
+
+pub part-fits : (r : Part) (s : List ℕ) (x : ℕ) → r ≡ part (lookup s x) → length s < 2 ^ 64 → r .at + r .length < 2 ^ 64
+part-fits r s x e l = omega (arith, part-inside r s x e)
+
+source-bytes : (s : List ℕ) (source : Source) → bytesAt s (sourcePart source .at) (sourcePart source .length) ≡ sourceBytes s source
+unfolding sourceBytes
+source-bytes s noSource = refl
+source-bytes s zeroSource = refl
+source-bytes s (Stored sector) = refl
+source-bytes s (Packed marker size o) = refl
+
+part-bytes : (s : List ℕ) (a : LookupAnswer) → bytesAt s (part a .at) (part a .length) ≡ answerBytes s a
+unfolding answerBytes
+part-bytes s (Refused r) = refl
+part-bytes s (Found source) = source-bytes s source
 
 -- a part by its ends is a part by its start and length
-pub part-is : (s : List ℕ) (at n : ℕ) → take (at + n - at) (drop at s) ≡ bytesAt s at n
-part-is s at n = let e : at + n - at ≡ n = omega arith in rw e
+pub part-read : (r : Part) (s : List ℕ) (x : ℕ) → r ≡ part (lookup s x) → take (r .at + r .length - r .at) (drop (r .at) s) ≡ read s x
+part-read r s x e = let n : r .at + r .length - r .at ≡ r .length = omega arith in rw (n, e) (part-bytes s (lookup s x))

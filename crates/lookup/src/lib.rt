@@ -2,19 +2,21 @@
 ghost use mathlib.Core.Path.{_≡_};
 ghost use Prim.Native.Nat.{_+_, _*_, _/_, _%_, _≤_, _<_};
 ghost use lib.ListN.{length};
-ghost use Rattle.format.specs.Source.{lookupTable, lookupIn, lookup, sourceBytes, answerBytes, read};
+ghost use Rattle.format.specs.Source.{lookupTable, lookupIn, lookup, read};
+ghost use Rattle.format.specs.Answers.{part};
 ghost use Rattle.format.specs.declared.Entry.the-variants.{Sector};
 ghost use Rattle.header.specs.Sized.{Sound};
 use format::Entry;
 use format::Header;
 use format::HeaderAnswer;
 use format::LookupAnswer;
+use format::Part;
 use format::Refusal;
 use format::Source;
 
 pub mod entries;
 mod grain;
-mod part;
+mod parts;
 
 // The table that a directory entry names, if it names one.
 fn in_table(image: &[u8], h: Header, g: u64, o: u64, t: u64) -> LookupAnswer
@@ -69,13 +71,23 @@ pub fn lookup(image: &[u8], sector: u64) -> LookupAnswer
     }
 }
 
-// The bytes of that source, as a part of the image; nothing on every refusal.
-pub fn read(image: &[u8], sector: u64) -> &[u8]
-    ensures { λ r. ⌜ now r ≡ read (now (image .entry)) sector ⌝ }
+// Where the bytes of that source stand in the image; 0 and 0 where there are none, and on every refusal.
+pub fn part(image: &[u8], sector: u64) -> Part
+    ensures { λ r. ⌜ r ≡ part (lookup (now (image .entry)) sector) ⌝ }
 {
     let answer = lookup(image, sector);
     match answer {
-        LookupAnswer::Found(source) => part::source_part(image, source),
-        LookupAnswer::Refused(_) => part::nothing(image),
+        LookupAnswer::Found(source) => parts::source_part(source),
+        LookupAnswer::Refused(_) => parts::nothing(),
     }
+}
+
+// Those bytes, as a part of the image itself.
+pub fn read(image: &[u8], sector: u64) -> &[u8]
+    ensures { λ r. ⌜ now r ≡ read (now (image .entry)) sector ⌝ }
+{
+    let part = part(image, sector);
+    let from = part.at as usize;
+    let end = (part.at + part.length) as usize;
+    &image[from..end]
 }

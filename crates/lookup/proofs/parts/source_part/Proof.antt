@@ -1,11 +1,9 @@
-use Rattle.lookup.proofs.Served.{stored-inside, packed-inside, bytes-as}
-use Rattle.format.specs.Source.{sourceBytes}
+use Rattle.lookup.proofs.Served.{stored-inside, packed-inside, source-as}
 use borrow.Author.Needs.{needs}
-use Rattle.lookup.proofs.part.source_part.Statement.{statement}
-use Rattle.lookup.proofs.part.source_part.Tie as tie
+use Rattle.lookup.proofs.parts.source_part.Statement.{statement}
+use Rattle.lookup.proofs.parts.source_part.Tie as tie
 
 pub source-part-spec : {M : Type 1} → statement M
-unfolding sourceBytes
 source-part-spec =
     tie.close
     (tie.spec
@@ -17,7 +15,7 @@ source-part-spec =
     (λ stored-part-requires κs. search stored-inside)
     (λ enum-known-source-2. search needs)
     (λ packed-part-requires κs. search packed-inside)
-    (λ returns. search bytes-as)
-    (λ returns-2. search bytes-as)
-    (λ returns-3. search bytes-as)
-    (λ returns-4. search bytes-as))
+    (λ returns. search needs)
+    (λ returns-2. search needs)
+    (λ returns-3. search source-as)
+    (λ returns-4. search source-as))
