@@ -8,6 +8,7 @@ ghost use Rattle.format.specs.Entries.{entryAt, tableAt, some};
 ghost use Rattle.format.specs.Check.{tablesDiffer, copyDiffers, copiesDiffer};
 ghost use Rattle.format.specs.declared.Entry.the-variants.{Sector};
 ghost use Rattle.accept.specs.Placed.{Placed};
+use super::used::entries_in_use;
 use format::Entry;
 use format::Header;
 use header::sizes::directory_entries;
@@ -62,18 +63,6 @@ fn copy_differs(image: &[u8], n: u64, entry: Entry, copy: Entry) -> bool
     }
 }
 
-// The entries in use of the table of directory entry d: those past the last grain are not compared.
-fn entries_in_use(per_table: u64, grains: u64, d: u64) -> u64
-    requires { ⌜ d * «per_table» < grains ⌝ }
-    ensures { λ r. ⌜ r ≡ min «per_table» (grains - d * «per_table») ⌝ }
-{
-    let left = grains - d * per_table;
-    if left < per_table {
-        return left;
-    }
-    per_table
-}
-
 // Whether entry d of the two directories, or its tables, differ.
 fn entry_differs(
     image: &[u8],
@@ -90,7 +79,7 @@ fn entry_differs(
     requires { ⌜ ((u : ℕ) → tableAt (now image) «one_is_zero» redundant d ≡ Sector u → 512 * u + 4 * «per_table» ≤ length (now image)) ⌝ }
     ensures { λ r. ⌜ r ≡ copyDiffers (now (image .entry)) (min «per_table» (grains - d * «per_table»)) (tableAt (now (image .entry)) «one_is_zero» directory d) (tableAt (now (image .entry)) «one_is_zero» redundant d) ⌝ }
 {
-    let n = entries_in_use(per_table, grains, d);
+    let n = entries_in_use(per_table, grains - d * per_table);
     let entry = table_at(image, one_is_zero, directory, d);
     let copy = table_at(image, one_is_zero, redundant, d);
     copy_differs(image, n, entry, copy)

@@ -1,7 +1,7 @@
 // Refusals 9 and 10 with the lowest grain number: one walk over directory and table entries, left at the first entry at fault.
 ghost use mathlib.Core.Path.{_≡_};
 ghost use mathlib.Core.Bool.{false, _&&_};
-ghost use Prim.Native.Nat.{ℕ, _+_, _≤_, _<_, min};
+ghost use Prim.Native.Nat.{ℕ, _+_, _≤_, _<_};
 ghost use lib.Dec.{ltb};
 ghost use Rattle.base.specs.Pick.{pick};
 ghost use Rattle.format.specs.Geometry.{fileSectors};
@@ -11,6 +11,7 @@ ghost use Rattle.format.specs.Areas.{named, runsPast};
 ghost use Rattle.format.specs.Check.{lowestFrom, grainPast, markerAt, badMarker, lowestPast, lowestBadMarker};
 ghost use Rattle.header.specs.Sized.{Sound};
 ghost use Rattle.accept.specs.Placed.{Placed, Filed};
+use super::used::entries_in_use;
 use format::Entry;
 use format::Header;
 use format::Lowest;
@@ -48,16 +49,6 @@ fn grains_of(h: Header) -> u64
     ensures { λ r. ⌜ (r ≡ grainsOf h) × (r ≤ 0x80000000) ⌝ }
 {
     base::ceil_div(h.capacity, h.grain_size)
-}
-
-// The entries in use of a table, where so many grains are left.
-fn entries_in_use(per_table: u64, left: u64) -> u64
-    ensures { λ r. ⌜ r ≡ min «per_table» left ⌝ }
-{
-    if per_table <= left {
-        return per_table;
-    }
-    left
 }
 
 // The lowest grain that breaks the rule. A directory entry that names no table is passed over with all its grains.

@@ -1,5 +1,5 @@
 -- Runs of marking, put together as calls follow each other.
-use Prim.Native.Nat.{ℕ, _+_, _-_, _^_, _≤_, _<_}
+use Prim.Native.Nat.{ℕ, _+_, _*_, _-_, _^_, _≤_, _<_}
 use mathlib.Core.Path.{_≡_, refl, _∙_}
 use mathlib.Core.List.{List, [], _∷_, _++_}
 use mathlib.Core.Bool.{Bool, true, false, not, true≢false, false≢true}
@@ -47,6 +47,14 @@ module _ (lo first count from end : ℕ) (ws : List ℕ) (f : from ≡ clip lo w
   run-clip xs m k =
       let span : from + (end - from) ≡ clip lo ws (first + count) = omega arith in
       run-one xs m (rw (span, f) at k)
+
+-- ---- an area before the window, or after it
+module _ (lo first count : ℕ) (ws : List ℕ) where
+  pub run-before : first + count ≤ lo → Run lo ws (area first count ∷ []) ws false
+  run-before h = run-outside lo first count _ _ ws refl refl (omega arith)
+
+  pub run-after : 64 * length ws ≤ first - lo → Run lo ws (area first count ∷ []) ws false
+  run-after h = run-outside lo first count _ _ ws refl refl (omega arith)
 
 -- ---- an area that an image may have
 pub there-ends : (there : Bool) (first count : ℕ) → (there ≡ true → first + count < 2 ^ 64) → there ≡ true → first + count < 2 ^ 64

@@ -17,8 +17,7 @@ fn clip(x: u64, lo: u64, width: usize) -> usize
     if bit < width { bit } else { width }
 }
 
-// Marks the part of an area that lies in the window. True if a sector of it was marked before; then nothing is changed.
-pub fn mark_area(words: &mut [u64], lo: u64, first: u64, count: u64) -> bool
+fn mark_part(words: &mut [u64], lo: u64, first: u64, count: u64) -> bool
     requires { ⌜ Counted (now words) × (first + count < 2 ^ 64) ⌝ }
     ensures { λ r. ⌜ Run lo (now (words .entry)) (area first count ∷ []) (now (words .exit)) r ⌝ }
 {
@@ -29,6 +28,25 @@ pub fn mark_area(words: &mut [u64], lo: u64, first: u64, count: u64) -> bool
         return false;
     }
     !marks::mark(&mut *words, from, end - from)
+}
+
+// Marks the part of an area that lies in the window. True if a sector of it was marked before; then nothing is changed.
+// Most areas of a large file have no part in a window: they cost two comparisons in the caller's loop.
+pub fn mark_area(words: &mut [u64], lo: u64, first: u64, count: u64) -> bool
+    requires { ⌜ Counted (now words) × (first + count < 2 ^ 64) ⌝ }
+    ensures { λ r. ⌜ Run lo (now (words .entry)) (area first count ∷ []) (now (words .exit)) r ⌝ }
+{
+    if first + count <= lo {
+        return false;
+    }
+    if first <= lo {
+        return mark_part(&mut *words, lo, first, count);
+    }
+    let width = (64 * words.len()) as u64;
+    if width <= first - lo {
+        return false;
+    }
+    mark_part(&mut *words, lo, first, count)
 }
 
 // Marks an area that an image may have.

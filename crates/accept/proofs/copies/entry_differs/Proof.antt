@@ -7,6 +7,8 @@ pub entry-differs-spec : {M : Type 1} → statement M
 entry-differs-spec =
     tie.close
     (tie.spec
+    (λ mul-entries-in-use. search needs)
+    (λ sub-entries-in-use. search needs)
     (λ entries-in-use-requires κs. search needs)
     (λ table-at-requires κs. search needs)
     (λ table-at-requires-2 κs. search needs)

@@ -1,5 +1,4 @@
--- `mark_area`: the area is clipped, and only a part in the window is marked.
-use Rattle.overlap.proofs.Runs.{run-outside, run-clip}
+use Rattle.overlap.proofs.Runs.{run-before, run-after}
 use borrow.Author.Needs.{needs}
 use Rattle.overlap.proofs.window.mark_area.Statement.{statement}
 use Rattle.overlap.proofs.window.mark_area.Tie as tie
@@ -8,12 +7,14 @@ pub mark-area-spec : {M : Type 1} → statement M
 mark-area-spec =
     tie.close
     (tie.spec
-    (λ mul-width. search needs)
-    (λ clip-requires κs. search needs)
-    (λ add-clip. search needs)
-    (λ clip-requires-2 κs. search needs)
-    (λ returns. search run-outside)
-    (λ sub-mark. search needs)
-    (λ mark-requires κs. search needs)
+    (λ add-if1. search needs)
+    (λ returns. search run-before)
+    (λ mark-part-requires κs. search needs)
     (λ same-length. search needs)
-    (λ returns-2. search run-clip))
+    (λ returns-2. search needs)
+    (λ mul-width. search needs)
+    (λ sub-if3. search needs)
+    (λ returns-3. search run-after)
+    (λ mark-part-requires-2 κs. search needs)
+    (λ same-length-2. search needs)
+    (λ returns-4. search needs))

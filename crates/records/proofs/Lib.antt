@@ -1,0 +1,4 @@
+pub mod Walk
+pub mod Fields
+pub mod Front
+pub mod Search

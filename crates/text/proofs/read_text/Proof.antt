@@ -1,0 +1,15 @@
+use Rattle.descriptor.specs.Descriptor.{readText}
+use borrow.Author.Needs.{needs}
+use Rattle.text.proofs.read_text.Statement.{statement}
+use Rattle.text.proofs.read_text.Tie as tie
+
+pub read-text-spec : {M : Type 1} → statement M
+unfolding readText
+read-text-spec =
+    tie.close
+    (tie.spec
+    (λ rest-requires κs. search needs)
+    (λ before-requires κs. search needs)
+    (λ until-requires κs. search needs)
+    (λ judged-text-requires κs. search needs)
+    (λ returns. cc))
