@@ -10,6 +10,8 @@ use format::Located;
 use format::Part;
 use format::Verdict;
 
+mod extents;
+
 #[no_mangle]
 pub extern "C" fn anhkhovet_check(image: &[u8]) -> Verdict
     ensures { λ r. ⌜ r ≡ verdict (check (now (image .entry))) ⌝ }

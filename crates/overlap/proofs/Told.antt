@@ -56,12 +56,12 @@ module _ (lo : ℕ) where
   unfolding holders
   stands-none n i h = none-marked n i
 
-  pub window-told : {ys : List ℕ} {l : List Area} {r : Bool} → Run lo (replicate 65536 0) l ys r → Window l lo r
+  pub window-told : {ys : List ℕ} {l : List Area} {r : Bool} → Run lo (replicate 131072 0) l ys r → Window l lo r
   unfolding holders
   window-told g = record {
-    met = λ e. let m = run-met [] g e (stands-none 65536) in (m .0, omega (arith, m .1));
+    met = λ e. let m = run-met [] g e (stands-none 131072) in (m .0, omega (arith, m .1));
     free = λ e x l u.
         let at : lo + (x - lo) ≡ x = omega arith in
-        let told = run-free [] g e (stands-none 65536) (x - lo) (omega (arith, length-replicate {A = ℕ} 65536 0)) in
+        let told = run-free [] g e (stands-none 131072) (x - lo) (omega (arith, length-replicate {A = ℕ} 131072 0)) in
         omega (arith, rw at at told);
   }

@@ -22,7 +22,7 @@ module _ (l : List Area) where
   clear-start = record { below = λ x h. absurd (omega arith) }
 
   module _ (lo : ℕ) (r : Bool) (w : Window l lo r) where
-    pub clear-more : Clear l lo → r ≡ false → Clear l (lo + 4194304)
+    pub clear-more : Clear l lo → r ≡ false → Clear l (lo + 8388608)
     clear-more k e = record { below = λ x h. ⊎-elim (λ b. k .below x b) (λ a. w .free e x a h) (lt-or-ge x lo) }
 
     pub clear-met : r ≡ true → true ≡ meet l

@@ -35,4 +35,4 @@ Counted ws = 64 * length ws < 2 ^ 64
 -- what one window tells of the areas: that some sector lies in two, or that none of the window does
 pub record Window (l : List Area) (lo : ℕ) (r : Bool) : Type 0 where
   pub met : r ≡ true → (x : ℕ) × (2 ≤ holders l x)
-  pub free : r ≡ false → (x : ℕ) → lo ≤ x → x < lo + 4194304 → holders l x ≤ 1
+  pub free : r ≡ false → (x : ℕ) → lo ≤ x → x < lo + 8388608 → holders l x ≤ 1

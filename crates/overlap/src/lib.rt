@@ -161,12 +161,12 @@ fn mark_all(words: &mut [u64], lo: u64, image: &[u8], h: Header) -> bool
     mark_all_grains(&mut *words, lo, image, h)
 }
 
-// Whether two areas meet in the window of 4,194,304 sectors from lo on.
+// Whether two areas meet in the window of 8,388,608 sectors from lo on.
 fn window_meets(image: &[u8], lo: u64, h: Header) -> bool
     requires { ⌜ InFile (now image) h ⌝ }
     ensures { λ r. ⌜ Window (areas (now (image .entry)) h) lo r ⌝ }
 {
-    let mut words = [0u64; 65536];
+    let mut words = [0u64; 131072];
     mark_all(&mut words, lo, image, h)
 }
 
@@ -181,7 +181,7 @@ pub fn areas_meet(image: &[u8], h: Header) -> bool
         if window_meets(image, lo, h) {
             return true;
         }
-        lo += 4194304;
+        lo += 8388608;
     }
     false
 }

@@ -7,7 +7,7 @@ use Rattle.overlap.proofs.areas_meet.Statement.{statement}
 use Rattle.overlap.proofs.areas_meet.Tie as tie
 
 abbrev Inv-loop : tie.InvT-loop
-Inv-loop image h sectors lo₀ lo = (lo ≤ sectors + 4194304) × Clear (areas image h) lo
+Inv-loop image h sectors lo₀ lo = (lo ≤ sectors + 8388608) × Clear (areas image h) lo
 
 abbrev μ-loop : tie.MeasureT-loop
 μ-loop image h sectors lo₀ lo = sectors - lo

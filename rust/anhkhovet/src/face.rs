@@ -1,0 +1,88 @@
+//! The C face, as crate `exports` has it: a slice is a pointer and a count, a struct is all u64 and passed by value.
+
+macro_rules! answer {
+    ($(#[$about:meta])* $name:ident { $($field:ident),* }) => {
+        $(#[$about])*
+        #[repr(C)]
+        #[derive(Clone, Copy, Debug, Default, PartialEq, Eq)]
+        pub struct $name {
+            $(pub $field: u64,)*
+        }
+    };
+}
+
+answer!(
+    /// The full check's answer.
+    Verdict { number, place, capacity, grain_size }
+);
+answer!(
+    /// What a header says; the refusals are 1 to 7 only.
+    Head { number, place, capacity, grain_size, descriptor, descriptor_sectors }
+);
+answer!(
+    /// Where a sector comes from. Kind: 0 absent, 1 zero, 2 stored, 3 packed.
+    Located { number, layer, place, kind, sector, size, offset }
+);
+answer!(
+    /// A part of the image, in bytes.
+    Part { at, length }
+);
+answer!(
+    /// The length, in bytes, of what was written.
+    Written { number, place, length }
+);
+answer!(
+    /// What a descriptor says beside its extents.
+    Described { number, place, extents, version, cid, parent_cid, type_at, type_length }
+);
+answer!(
+    /// One extent. Access: 1 RW, 2 RDONLY, 3 NOACCESS. Kind: 1 FLAT, 2 VMFS, 3 SPARSE, 4 VMFSSPARSE, 5 ZERO.
+    Extent { first, sectors, access, kind, name_at, name_length, offset }
+);
+answer!(
+    /// The number, in the list, of the extent that holds a sector.
+    Found { number, place, extent }
+);
+
+extern "C" {
+    pub fn anhkhovet_check(image: *const u8, length: usize) -> Verdict;
+    pub fn anhkhovet_header(image: *const u8, length: usize) -> Head;
+    pub fn anhkhovet_lookup(image: *const u8, length: usize, sector: u64) -> Located;
+    pub fn anhkhovet_chain(
+        layers: *const u8,
+        layers_length: usize,
+        lengths: *const u64,
+        lengths_length: usize,
+        sector: u64,
+    ) -> Located;
+    pub fn anhkhovet_read(image: *const u8, length: usize, sector: u64) -> Part;
+}
+
+#[cfg(feature = "writing")]
+extern "C" {
+    pub fn anhkhovet_normal(
+        image: *const u8,
+        length: usize,
+        out: *mut u8,
+        out_length: usize,
+    ) -> Written;
+    pub fn anhkhovet_collapse(
+        lower: *const u8,
+        lower_length: usize,
+        upper: *const u8,
+        upper_length: usize,
+        out: *mut u8,
+        out_length: usize,
+    ) -> Written;
+}
+
+#[cfg(feature = "descriptor")]
+extern "C" {
+    pub fn anhkhovet_descriptor(
+        text: *const u8,
+        length: usize,
+        extents: *mut Extent,
+        extents_length: usize,
+    ) -> Described;
+    pub fn anhkhovet_find(extents: *const Extent, length: usize, sector: u64) -> Found;
+}

@@ -1,0 +1,97 @@
+//! The proved library, safe to call. What each call answers is document 01's and is proved in `crates/`.
+//!
+//! Each `unsafe` below rests on the same ground: a slice's pointer and count describe memory that is lent for the call,
+//! shared or exclusive as the slice is, and the library keeps neither.
+
+mod face;
+
+pub use face::{Described, Extent, Found, Head, Located, Part, Verdict, Written};
+
+/// The full check: refusals 1 to 12, or capacity and grain size.
+pub fn check(image: &[u8]) -> Verdict {
+    // SAFETY: see the top of the file.
+    unsafe { face::anhkhovet_check(image.as_ptr(), image.len()) }
+}
+
+/// The header alone: refusals 1 to 7.
+pub fn header(image: &[u8]) -> Head {
+    // SAFETY: see the top of the file.
+    unsafe { face::anhkhovet_header(image.as_ptr(), image.len()) }
+}
+
+/// Where virtual sector `sector` comes from.
+pub fn lookup(image: &[u8], sector: u64) -> Located {
+    // SAFETY: see the top of the file.
+    unsafe { face::anhkhovet_lookup(image.as_ptr(), image.len(), sector) }
+}
+
+/// Where virtual sector `sector` of a chain comes from: layers end to end, base first, and their lengths.
+pub fn chain(layers: &[u8], lengths: &[u64], sector: u64) -> Located {
+    // SAFETY: see the top of the file.
+    unsafe {
+        face::anhkhovet_chain(
+            layers.as_ptr(),
+            layers.len(),
+            lengths.as_ptr(),
+            lengths.len(),
+            sector,
+        )
+    }
+}
+
+/// The place of the bytes that `read` hands back.
+pub fn read_part(image: &[u8], sector: u64) -> Part {
+    // SAFETY: see the top of the file.
+    unsafe { face::anhkhovet_read(image.as_ptr(), image.len(), sector) }
+}
+
+/// The grain reader: 512 bytes of a stored sector, the payload of a packed grain, else an empty part.
+pub fn read(image: &[u8], sector: u64) -> &[u8] {
+    let part = read_part(image, sector);
+    let from = part.at as usize;
+    &image[from..from + part.length as usize]
+}
+
+/// Writes the normal form of an image over the start of `out`.
+#[cfg(feature = "writing")]
+pub fn normal(image: &[u8], out: &mut [u8]) -> Written {
+    // SAFETY: see the top of the file.
+    unsafe { face::anhkhovet_normal(image.as_ptr(), image.len(), out.as_mut_ptr(), out.len()) }
+}
+
+/// Writes the collapse of two images over the start of `out`.
+#[cfg(feature = "writing")]
+pub fn collapse(lower: &[u8], upper: &[u8], out: &mut [u8]) -> Written {
+    // SAFETY: see the top of the file.
+    unsafe {
+        face::anhkhovet_collapse(
+            lower.as_ptr(),
+            lower.len(),
+            upper.as_ptr(),
+            upper.len(),
+            out.as_mut_ptr(),
+            out.len(),
+        )
+    }
+}
+
+/// Reads a descriptor and stores its extents at the start of the lent list.
+#[cfg(feature = "descriptor")]
+pub fn descriptor(text: &[u8], extents: &mut [Extent]) -> Described {
+    // SAFETY: see the top of the file.
+    unsafe {
+        face::anhkhovet_descriptor(
+            text.as_ptr(),
+            text.len(),
+            extents.as_mut_ptr(),
+            extents.len(),
+        )
+    }
+}
+
+/// The first record of the list that holds `sector`.
+#[cfg(feature = "descriptor")]
+pub fn find(extents: &[Extent], sector: u64) -> Found {
+    // SAFETY: see the top of the file.
+    unsafe { face::anhkhovet_find(extents.as_ptr(), extents.len(), sector) }
+}

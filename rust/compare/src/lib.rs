@@ -1,0 +1,14 @@
+//! Compares two implementations of document 01 on generated inputs, call by call.
+
+pub mod cases;
+pub mod far;
+mod image;
+mod lists;
+pub mod rng;
+pub mod run;
+pub mod side;
+pub mod tally;
+mod text;
+
+#[cfg(test)]
+mod tests;

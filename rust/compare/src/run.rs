@@ -1,0 +1,260 @@
+//! One call on both sides: compared, counted, and its input saved where the sides differ.
+
+use crate::side::Side;
+use crate::tally::{Call, Tally};
+use plain::{Extent, Verdict, ABSENT, PACKED, STORED, ZERO};
+use std::fmt::Debug;
+use std::fs;
+use std::path::PathBuf;
+
+/// Differences whose input is saved and printed; the rest is only counted.
+const MOST_SAVED: u64 = 20;
+
+pub struct Run<'a> {
+    /// The side under test, and the one that it is compared with.
+    sides: [&'a dyn Side; 2],
+    pub tally: Tally,
+    folder: PathBuf,
+    /// What a report names, so that a case can be run again.
+    pub case: u64,
+    pub quiet: bool,
+    /// Whether inputs of differences are written to files.
+    pub saves: bool,
+    patterns: Vec<u8>,
+    outs: [Vec<u8>; 2],
+}
+
+impl<'a> Run<'a> {
+    pub fn new(sides: [&'a dyn Side; 2], calls: Vec<Call>, folder: PathBuf) -> Run<'a> {
+        let patterns = (0..1 << 16).map(|i: u32| (i * 7 + i / 251 + 129) as u8);
+        Run {
+            sides,
+            tally: Tally::new(calls),
+            folder,
+            case: 0,
+            quiet: false,
+            saves: true,
+            patterns: patterns.collect(),
+            outs: [Vec::new(), Vec::new()],
+        }
+    }
+
+    pub fn compares(&self, call: Call) -> bool {
+        self.tally.calls.contains(&call)
+    }
+
+    /// Counts one comparison. `lent` says whether the lent memory is alike afterwards.
+    fn compare<T: Debug + PartialEq>(
+        &mut self,
+        call: Call,
+        answers: [&T; 2],
+        lent: bool,
+        inputs: &[&[u8]],
+        words: &dyn Debug,
+    ) {
+        self.tally.comparisons += 1;
+        if answers[0] == answers[1] && lent {
+            return;
+        }
+        self.tally.differences += 1;
+        if self.quiet || self.tally.differences > MOST_SAVED {
+            return;
+        }
+        println!("difference: {call:?} in case {} with {words:?}", self.case);
+        println!("  tested: {:?}", answers[0]);
+        println!("  plain:  {:?}", answers[1]);
+        if !lent {
+            println!("  the lent memory differs");
+        }
+        for (index, input) in inputs.iter().enumerate().filter(|_| self.saves) {
+            let name = format!("{call:?}-{}-{index}", self.case).to_lowercase();
+            let path = self.folder.join(name);
+            match fs::create_dir_all(&self.folder).and_then(|()| fs::write(&path, input)) {
+                Ok(()) => println!("  input:  {}", path.display()),
+                Err(error) => println!("  input not saved: {error}"),
+            }
+        }
+    }
+
+    pub fn check(&mut self, image: &[u8]) {
+        let answers = self.sides.map(|side| side.check(image));
+        self.compare(Call::Check, [&answers[0], &answers[1]], true, &[image], &());
+        self.count_accepted(Call::Check, answers[1], image);
+    }
+
+    pub fn header(&mut self, image: &[u8]) {
+        let answers = self.sides.map(|side| side.header(image));
+        self.compare(
+            Call::Header,
+            [&answers[0], &answers[1]],
+            true,
+            &[image],
+            &(),
+        );
+        let verdict = Verdict {
+            number: answers[1].number,
+            capacity: answers[1].capacity,
+            grain_size: answers[1].grain_size,
+            ..Verdict::default()
+        };
+        self.count_accepted(Call::Header, verdict, image);
+    }
+
+    /// Rows of an accepted image, by what its header has.
+    fn count_accepted(&mut self, call: Call, verdict: Verdict, image: &[u8]) {
+        if verdict.number != 0 {
+            self.tally.refused(call, verdict.number);
+            return;
+        }
+        let set = |range: std::ops::Range<usize>| image[range].iter().any(|byte| *byte != 0);
+        let cowd = &image[..4] == b"COWD";
+        let per_table = if cowd { 4096 } else { 512 };
+        let rows = [
+            ("accepted KDMV", !cowd),
+            ("accepted COWD", cowd),
+            ("accepted, footer", !cowd && image[56..64] == [255; 8]),
+            ("accepted, redundant", !cowd && set(48..56)),
+            ("accepted, descriptor", !cowd && set(28..36)),
+            ("accepted, packed", !cowd && set(77..78)),
+            (
+                "accepted, n above 1",
+                verdict.capacity > per_table * verdict.grain_size,
+            ),
+            ("accepted, odd length", image.len() % 512 != 0),
+        ];
+        for (row, holds) in rows {
+            if holds {
+                self.tally.answered(call, row);
+            }
+        }
+    }
+
+    pub fn lookup(&mut self, image: &[u8], sector: u64) {
+        let answers = self.sides.map(|side| side.lookup(image, sector));
+        self.compare(
+            Call::Lookup,
+            [&answers[0], &answers[1]],
+            true,
+            &[image],
+            &sector,
+        );
+        self.count_located(Call::Lookup, answers[1].number, answers[1].kind);
+    }
+
+    pub fn chain(&mut self, layers: &[u8], lengths: &[u64], sector: u64) {
+        let answers = self.sides.map(|side| side.chain(layers, lengths, sector));
+        let both = [&answers[0], &answers[1]];
+        self.compare(Call::Chain, both, true, &[layers], &(lengths, sector));
+        self.count_located(Call::Chain, answers[1].number, answers[1].kind);
+        let top = lengths.len() as u64;
+        if answers[1].number == 0 && answers[1].kind != ABSENT && answers[1].layer + 1 < top {
+            self.tally.answered(Call::Chain, "under the top layer");
+        }
+    }
+
+    fn count_located(&mut self, call: Call, number: u64, kind: u64) {
+        if number != 0 {
+            self.tally.refused(call, number);
+            return;
+        }
+        let row = match kind {
+            ABSENT => "absent",
+            ZERO => "zero",
+            STORED => "stored",
+            PACKED => "packed",
+            _ => "unknown",
+        };
+        self.tally.answered(call, row);
+    }
+
+    pub fn read(&mut self, image: &[u8], sector: u64) {
+        let answers = self.sides.map(|side| side.read(image, sector));
+        self.compare(
+            Call::Read,
+            [&answers[0], &answers[1]],
+            true,
+            &[image],
+            &sector,
+        );
+        let row = match (answers[1].at % 512, answers[1].length) {
+            (_, 0) => "empty part",
+            (0, _) => "stored",
+            _ => "packed",
+        };
+        self.tally.answered(Call::Read, row);
+    }
+
+    pub fn normal(&mut self, image: &[u8], room: usize) {
+        self.write(Call::Normal, &[image], room, |side, out| {
+            side.normal(image, out)
+        });
+    }
+
+    pub fn collapse(&mut self, lower: &[u8], upper: &[u8], room: usize) {
+        self.write(Call::Collapse, &[lower, upper], room, |side, out| {
+            side.collapse(lower, upper, out)
+        });
+    }
+
+    /// Both outputs hold the same pattern before, and are compared byte for byte after.
+    fn write(
+        &mut self,
+        call: Call,
+        inputs: &[&[u8]],
+        room: usize,
+        with: impl Fn(&dyn Side, &mut [u8]) -> plain::Written,
+    ) {
+        for out in &mut self.outs {
+            out.clear();
+            while out.len() < room {
+                let more = self.patterns.len().min(room - out.len());
+                out.extend_from_slice(&self.patterns[..more]);
+            }
+        }
+        let tested = with(self.sides[0], &mut self.outs[0]);
+        let plain = with(self.sides[1], &mut self.outs[1]);
+        let lent = self.outs[0] == self.outs[1];
+        self.compare(call, [&tested, &plain], lent, inputs, &room);
+        if plain.number != 0 {
+            self.tally.refused(call, plain.number);
+        } else if plain.length == room as u64 {
+            self.tally.answered(call, "written, exact room");
+        } else {
+            self.tally.answered(call, "written, room left");
+        }
+    }
+
+    pub fn describe(&mut self, text: &[u8], list: &[Extent]) {
+        let mut lists = [list.to_vec(), list.to_vec()];
+        let tested = self.sides[0].describe(text, &mut lists[0]);
+        let plain = self.sides[1].describe(text, &mut lists[1]);
+        let lent = lists[0] == lists[1];
+        let words = (list.len(), if lent { &[] } else { &lists[..] });
+        self.compare(Call::Descriptor, [&tested, &plain], lent, &[text], &words);
+        if plain.number != 0 {
+            self.tally.refused(Call::Descriptor, plain.number);
+            return;
+        }
+        self.tally.answered(Call::Descriptor, "described");
+        if plain.extents == 32 {
+            self.tally
+                .answered(Call::Descriptor, "described, 32 extents");
+        }
+    }
+
+    pub fn find(&mut self, list: &[Extent], sector: u64) {
+        let answers = self.sides.map(|side| side.find(list, sector));
+        let words = (list, sector);
+        self.compare(Call::Find, [&answers[0], &answers[1]], true, &[], &words);
+        match answers[1].number {
+            0 => self.tally.answered(Call::Find, "found"),
+            number => self.tally.refused(Call::Find, number),
+        }
+    }
+
+    /// Lent images must be as they were: a change counts as a difference.
+    pub fn unchanged(&mut self, call: Call, before: &[u8], after: &[u8]) {
+        self.compare(call, [&(), &()], before == after, &[before], &"lent image");
+        self.tally.comparisons -= 1;
+    }
+}

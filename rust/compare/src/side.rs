@@ -1,0 +1,146 @@
+//! The two sides behind one trait. Answers are the plain side's structs.
+
+use plain::{Described, Extent, Found, Head, Located, Part, Verdict, Written};
+
+pub trait Side {
+    fn check(&self, image: &[u8]) -> Verdict;
+    fn header(&self, image: &[u8]) -> Head;
+    fn lookup(&self, image: &[u8], sector: u64) -> Located;
+    fn chain(&self, layers: &[u8], lengths: &[u64], sector: u64) -> Located;
+    fn read(&self, image: &[u8], sector: u64) -> Part;
+    fn normal(&self, image: &[u8], out: &mut [u8]) -> Written;
+    fn collapse(&self, lower: &[u8], upper: &[u8], out: &mut [u8]) -> Written;
+    fn describe(&self, text: &[u8], list: &mut [Extent]) -> Described;
+    fn find(&self, list: &[Extent], sector: u64) -> Found;
+}
+
+/// The plain implementation.
+pub struct Plain;
+
+impl Side for Plain {
+    fn check(&self, image: &[u8]) -> Verdict {
+        plain::check(image)
+    }
+    fn header(&self, image: &[u8]) -> Head {
+        plain::header(image)
+    }
+    fn lookup(&self, image: &[u8], sector: u64) -> Located {
+        plain::lookup(image, sector)
+    }
+    fn chain(&self, layers: &[u8], lengths: &[u64], sector: u64) -> Located {
+        plain::chain(layers, lengths, sector)
+    }
+    fn read(&self, image: &[u8], sector: u64) -> Part {
+        plain::read(image, sector)
+    }
+    fn normal(&self, image: &[u8], out: &mut [u8]) -> Written {
+        plain::over(plain::normal(image, out.len()), out)
+    }
+    fn collapse(&self, lower: &[u8], upper: &[u8], out: &mut [u8]) -> Written {
+        plain::over(plain::collapse(lower, upper, out.len()), out)
+    }
+    fn describe(&self, text: &[u8], list: &mut [Extent]) -> Described {
+        let (described, extents) = plain::describe(text, list.len());
+        list[..extents.len()].copy_from_slice(&extents);
+        described
+    }
+    fn find(&self, list: &[Extent], sector: u64) -> Found {
+        plain::find(list, sector)
+    }
+}
+
+#[cfg(feature = "proved")]
+mod proved {
+    use super::*;
+    #[cfg(feature = "descriptor")]
+    use anhkhovet::Extent as Record;
+
+    /// The proved library, through its C face.
+    pub struct Proved;
+
+    /// A struct of the one side from the other's, field by field.
+    macro_rules! same {
+        ($from:expr => $to:ident { $($field:ident),* }) => {{
+            let from = $from;
+            $to { $($field: from.$field),* }
+        }};
+    }
+
+    impl Side for Proved {
+        fn check(&self, image: &[u8]) -> Verdict {
+            same!(anhkhovet::check(image) => Verdict { number, place, capacity, grain_size })
+        }
+        fn header(&self, image: &[u8]) -> Head {
+            same!(anhkhovet::header(image) => Head { number, place, capacity, grain_size, descriptor, descriptor_sectors })
+        }
+        fn lookup(&self, image: &[u8], sector: u64) -> Located {
+            same!(anhkhovet::lookup(image, sector) => Located { number, layer, place, kind, sector, size, offset })
+        }
+        fn chain(&self, layers: &[u8], lengths: &[u64], sector: u64) -> Located {
+            same!(anhkhovet::chain(layers, lengths, sector) => Located { number, layer, place, kind, sector, size, offset })
+        }
+        fn read(&self, image: &[u8], sector: u64) -> Part {
+            same!(anhkhovet::read_part(image, sector) => Part { at, length })
+        }
+        #[cfg(feature = "writing")]
+        fn normal(&self, image: &[u8], out: &mut [u8]) -> Written {
+            same!(anhkhovet::normal(image, out) => Written { number, place, length })
+        }
+        #[cfg(feature = "writing")]
+        fn collapse(&self, lower: &[u8], upper: &[u8], out: &mut [u8]) -> Written {
+            same!(anhkhovet::collapse(lower, upper, out) => Written { number, place, length })
+        }
+        #[cfg(feature = "descriptor")]
+        fn describe(&self, text: &[u8], list: &mut [Extent]) -> Described {
+            let mut records: Vec<Record> = list.iter().map(record).collect();
+            let described = anhkhovet::descriptor(text, &mut records);
+            for (to, from) in list.iter_mut().zip(&records) {
+                *to = same!(from => Extent { first, sectors, access, kind, name_at, name_length, offset });
+            }
+            same!(described => Described { number, place, extents, version, cid, parent_cid, type_at, type_length })
+        }
+        #[cfg(feature = "descriptor")]
+        fn find(&self, list: &[Extent], sector: u64) -> Found {
+            let records: Vec<Record> = list.iter().map(record).collect();
+            same!(anhkhovet::find(&records, sector) => Found { number, place, extent })
+        }
+        // Calls that the archive does not have yet: `run` never asks for them.
+        #[cfg(not(feature = "writing"))]
+        fn normal(&self, _: &[u8], _: &mut [u8]) -> Written {
+            unreachable!()
+        }
+        #[cfg(not(feature = "writing"))]
+        fn collapse(&self, _: &[u8], _: &[u8], _: &mut [u8]) -> Written {
+            unreachable!()
+        }
+        #[cfg(not(feature = "descriptor"))]
+        fn describe(&self, _: &[u8], _: &mut [Extent]) -> Described {
+            unreachable!()
+        }
+        #[cfg(not(feature = "descriptor"))]
+        fn find(&self, _: &[Extent], _: u64) -> Found {
+            unreachable!()
+        }
+    }
+
+    #[cfg(feature = "descriptor")]
+    fn record(extent: &Extent) -> Record {
+        same!(extent => Record { first, sectors, access, kind, name_at, name_length, offset })
+    }
+}
+
+#[cfg(feature = "proved")]
+pub use proved::Proved;
+
+/// The side under test: the proved one, or without the feature `proved` the plain one, so that it meets itself.
+#[cfg(feature = "proved")]
+pub fn tested() -> &'static dyn Side {
+    &Proved
+}
+
+/// The side under test: the proved one, or without the feature `proved` the plain one, so that it meets itself.
+#[cfg(not(feature = "proved"))]
+pub fn tested() -> &'static dyn Side {
+    println!("built without the feature `proved`: the plain side meets itself");
+    &Plain
+}

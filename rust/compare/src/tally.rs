@@ -1,0 +1,190 @@
+//! What was reached: a count for each call and each answer or refusal that it gave.
+
+use std::fmt;
+
+#[derive(Clone, Copy, Debug, PartialEq, Eq)]
+pub enum Call {
+    Check,
+    Header,
+    Lookup,
+    Chain,
+    Read,
+    Normal,
+    Collapse,
+    Descriptor,
+    Find,
+}
+
+use Call::*;
+
+const CALLS: [(Call, &str); 9] = [
+    (Check, "check"),
+    (Header, "header"),
+    (Lookup, "lookup"),
+    (Chain, "chain"),
+    (Read, "read"),
+    (Normal, "normal"),
+    (Collapse, "collapse"),
+    (Descriptor, "descriptor"),
+    (Find, "find"),
+];
+
+/// Kinds of answers, with the calls that can give them.
+const ANSWERS: [(&str, &[Call]); 19] = [
+    ("accepted KDMV", &[Check, Header]),
+    ("accepted COWD", &[Check, Header]),
+    ("accepted, footer", &[Check, Header]),
+    ("accepted, redundant", &[Check, Header]),
+    ("accepted, descriptor", &[Check, Header]),
+    ("accepted, packed", &[Check, Header]),
+    ("accepted, n above 1", &[Check, Header]),
+    ("accepted, odd length", &[Check, Header]),
+    ("absent", &[Lookup, Chain]),
+    ("zero", &[Lookup, Chain]),
+    ("stored", &[Lookup, Chain, Read]),
+    ("packed", &[Lookup, Chain, Read]),
+    ("under the top layer", &[Chain]),
+    ("empty part", &[Read]),
+    ("written, exact room", &[Normal, Collapse]),
+    ("written, room left", &[Normal, Collapse]),
+    ("described", &[Descriptor]),
+    ("described, 32 extents", &[Descriptor]),
+    ("found", &[Find]),
+];
+
+/// The refusals of document 01, with the calls that can give them; 37 is the program's own.
+fn gives(number: u64, call: Call) -> bool {
+    match call {
+        Check => (1..=12).contains(&number),
+        Header => (1..=7).contains(&number),
+        Lookup => (1..=10).contains(&number) || number == 20,
+        Chain => (1..=10).contains(&number) || [20, 22, 24].contains(&number),
+        Read => false,
+        Normal => (1..=12).contains(&number) || [21, 23].contains(&number),
+        Collapse => (1..=12).contains(&number) || (21..=23).contains(&number),
+        Descriptor => (30..=36).contains(&number) || number == 21,
+        Find => number == 20,
+    }
+}
+
+const NUMBERS: u64 = 37;
+
+/// A row's count in each call's column.
+type Counts = [u64; CALLS.len()];
+
+pub struct Tally {
+    refusals: Vec<Counts>,
+    answers: Vec<Counts>,
+    /// Refusals that no call, or not this call, can give.
+    pub strange: u64,
+    pub comparisons: u64,
+    pub differences: u64,
+    /// Which calls are compared.
+    pub calls: Vec<Call>,
+}
+
+impl Tally {
+    pub fn new(calls: Vec<Call>) -> Tally {
+        Tally {
+            refusals: vec![[0; CALLS.len()]; NUMBERS as usize],
+            answers: vec![[0; CALLS.len()]; ANSWERS.len()],
+            strange: 0,
+            comparisons: 0,
+            differences: 0,
+            calls,
+        }
+    }
+
+    pub fn refused(&mut self, call: Call, number: u64) {
+        if gives(number, call) {
+            self.refusals[number as usize][call as usize] += 1;
+        } else {
+            self.strange += 1;
+        }
+    }
+
+    pub fn answered(&mut self, call: Call, answer: &str) {
+        for (index, (name, calls)) in ANSWERS.iter().enumerate() {
+            if *name == answer && calls.contains(&call) {
+                self.answers[index][call as usize] += 1;
+                return;
+            }
+        }
+        self.strange += 1;
+    }
+
+    /// Every row: its name, its counts, and which calls can give it.
+    fn rows(&self) -> Vec<(String, Counts, Vec<Call>)> {
+        let all = || self.calls.iter().copied();
+        let mut rows = Vec::new();
+        for number in 1..NUMBERS {
+            let calls: Vec<Call> = all().filter(|call| gives(number, *call)).collect();
+            rows.push((
+                format!("refused {number}"),
+                self.refusals[number as usize],
+                calls,
+            ));
+        }
+        for (index, (name, calls)) in ANSWERS.iter().enumerate() {
+            let calls = all().filter(|call| calls.contains(call)).collect();
+            rows.push((name.to_string(), self.answers[index], calls));
+        }
+        rows.retain(|(_, _, calls)| !calls.is_empty());
+        rows
+    }
+
+    /// Places of the table that can be reached and were not.
+    pub fn empty(&self) -> Vec<String> {
+        let mut empty = Vec::new();
+        for (name, counts, calls) in self.rows() {
+            for call in calls {
+                if counts[call as usize] == 0 {
+                    empty.push(format!("{name} by {}", CALLS[call as usize].1));
+                }
+            }
+        }
+        empty
+    }
+
+    pub fn good(&self) -> bool {
+        self.differences == 0 && self.strange == 0 && self.empty().is_empty()
+    }
+}
+
+impl fmt::Display for Tally {
+    /// The table; a place that the call cannot give is left blank.
+    fn fmt(&self, to: &mut fmt::Formatter) -> fmt::Result {
+        write!(to, "{:<22}", "")?;
+        for call in &self.calls {
+            write!(to, "{:>11}", CALLS[*call as usize].1)?;
+        }
+        writeln!(to)?;
+        for (name, counts, calls) in self.rows() {
+            let mut line = format!("{name:<22}");
+            for call in &self.calls {
+                let cell = if calls.contains(call) {
+                    counts[*call as usize].to_string()
+                } else {
+                    String::new()
+                };
+                line.push_str(&format!("{cell:>11}"));
+            }
+            writeln!(to, "{}", line.trim_end())?;
+        }
+        for place in self.empty() {
+            writeln!(to, "never reached: {place}")?;
+        }
+        if self.strange > 0 {
+            writeln!(
+                to,
+                "{} answers that document 01 does not know",
+                self.strange
+            )?;
+        }
+        write!(
+            to,
+            "{} comparisons, {} differences",
+            self.comparisons, self.differences
+        )
+    }
+}

@@ -1,0 +1,134 @@
+//! The generators: sound inputs are accepted and say what they were made to say, whatever stands in unused places.
+
+use crate::image::{build, suited, unused, Built, Cell, Plan, Shape, What};
+use crate::rng::Rng;
+use crate::text;
+use plain::{check, collapse, describe, lookup, normal, read, ABSENT, PACKED, STORED, ZERO};
+use std::collections::BTreeSet;
+
+fn sound(rng: &mut Rng, plan: Plan) -> Built {
+    let shape = Shape::choose(rng, plan);
+    build(rng, shape)
+}
+
+fn any(most_sectors: u64) -> Plan {
+    Plan {
+        most_sectors,
+        ..Plan::default()
+    }
+}
+
+#[test]
+fn sound_images_are_accepted() {
+    let mut sizes = BTreeSet::new();
+    for case in 0..3000 {
+        let rng = &mut Rng::new(5, case);
+        let mut built = sound(rng, suited(any(2100), case));
+        let verdict = check(&built.bytes);
+        let shape = &built.shape;
+        let expected = (0, shape.capacity, shape.grain_size);
+        let found = (verdict.number, verdict.capacity, verdict.grain_size);
+        assert_eq!(found, expected, "{case}: {shape:?}");
+        for area in &built.areas {
+            if matches!(area.what, What::Grain(_)) {
+                sizes.insert((shape.cowd, shape.packed, shape.grain_size));
+            }
+        }
+        unused(rng, &mut built);
+        assert_eq!(check(&built.bytes), verdict, "{case}: {:?}", built.shape);
+    }
+    // 12 sizes of COWD, and 9 of KDMV, stored and packed.
+    assert_eq!(sizes.len(), 12 + 9 + 9, "{sizes:?}");
+}
+
+#[test]
+fn lookups_find_what_was_built() {
+    for case in 0..600 {
+        let rng = &mut Rng::new(6, case);
+        let built = sound(rng, any(600));
+        let shape = &built.shape;
+        let per_table = shape.per_table();
+        for grain in 0..shape.grains().min(3 * per_table) {
+            let sector = grain * shape.grain_size;
+            let located = lookup(&built.bytes, sector);
+            let index = grain / per_table;
+            let one = !shape.cowd && (shape.ones == 1 || (shape.ones == 2 && index % 2 == 1));
+            let kind = match shape.tables.get(&index) {
+                None if one => ZERO,
+                None => ABSENT,
+                Some(cells) => match cells.get(&(grain % per_table)) {
+                    None => ABSENT,
+                    Some(Cell::Zero) => ZERO,
+                    Some(Cell::Stored) => STORED,
+                    Some(Cell::Packed(_)) => PACKED,
+                },
+            };
+            assert_eq!((located.number, located.kind), (0, kind), "{case} {grain}");
+            let place = built
+                .areas
+                .iter()
+                .find(|area| area.what == What::Grain(grain));
+            assert_eq!(located.sector, place.map_or(0, |area| area.first), "{case}");
+        }
+    }
+}
+
+/// The bytes of a sector, or whether it is absent or zero.
+fn content(image: &[u8], sector: u64) -> (u64, Vec<u8>) {
+    let part = read(image, sector);
+    let from = part.at as usize;
+    let bytes = image[from..from + part.length as usize].to_vec();
+    (lookup(image, sector).kind, bytes)
+}
+
+#[test]
+fn collapse_keeps_sectors_and_pairs_in_any_way() {
+    let most = usize::MAX;
+    for case in 0..300 {
+        let rng = &mut Rng::new(7, case);
+        let grain_size = 8 << rng.below(3);
+        let plan = Plan {
+            cowd: Some(false),
+            packed: Some(false),
+            size: Some((rng.within(1, 700 * grain_size), grain_size)),
+            ..any(100)
+        };
+        let made: Vec<Built> = (0..3).map(|_| sound(rng, plan)).collect();
+        let [a, b, c] = [0, 1, 2].map(|layer: usize| &made[layer].bytes[..]);
+        let ab = collapse(a, b, most).unwrap();
+        let bc = collapse(b, c, most).unwrap();
+        assert_eq!(collapse(&ab, c, most), collapse(a, &bc, most), "{case}");
+        assert_eq!(check(&ab).number, 0, "{case}");
+        let normal_a = normal(a, most).unwrap();
+        assert_eq!(collapse(a, a, most).unwrap(), normal_a, "{case}");
+        assert_eq!(normal(&normal_a, most).unwrap(), normal_a, "{case}");
+        let capacity = made[0].shape.capacity;
+        for sector in (0..capacity).filter(|sector| *sector < 64 || rng.one_in(20)) {
+            assert_eq!(content(a, sector), content(&normal_a, sector), "{case}");
+            let upper = content(b, sector);
+            let expected = if upper.0 == ABSENT {
+                content(a, sector)
+            } else {
+                upper
+            };
+            assert_eq!(content(&ab, sector), expected, "{case} {sector}");
+        }
+    }
+}
+
+#[test]
+fn sound_texts_are_described() {
+    for case in 0..3000 {
+        let rng = &mut Rng::new(8, case);
+        let text = text::sound(rng).bytes();
+        let (described, list) = describe(&text, 32);
+        let shown = || String::from_utf8_lossy(&text).into_owned();
+        assert_eq!(described.number, 0, "{case}: {}", shown());
+        for extent in list {
+            let at = extent.name_at as usize;
+            let quotes = [at.wrapping_sub(1), at + extent.name_length as usize];
+            let quoted = quotes.iter().all(|at| text.get(*at) == Some(&b'"'));
+            assert!(extent.kind == 5 || quoted, "{case}: {}", shown());
+        }
+    }
+}

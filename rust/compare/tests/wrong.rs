@@ -1,0 +1,170 @@
+//! A side with one deliberate mistake must be caught, each of document 01's "mistakes to shut out" among them.
+
+use compare::cases::run_cases;
+use compare::run::Run;
+use compare::side::{Plain, Side};
+use compare::tally::{Call, Tally};
+use plain::{Described, Extent, Found, Head, Located, Part, Verdict, Written};
+use std::path::PathBuf;
+
+/// The plain side with one mistake.
+#[derive(Clone, Copy, Debug, PartialEq)]
+enum Mistake {
+    None,
+    OverlapAccepted,
+    PlaceOfFirstGrain,
+    DescriptorNumbersSwapped,
+    PackedOffsetForgotten,
+    ZeroAsksTheParent,
+    LengthsThatWrap,
+    ShortPart,
+    BytePastTheResult,
+    ByteOnRefusal,
+    LowerOverUpper,
+    RecordPastTheLast,
+    RecordOnRefusal,
+    LineFromZero,
+    EndThatWraps,
+}
+
+use Mistake::*;
+
+impl Side for Mistake {
+    fn check(&self, image: &[u8]) -> Verdict {
+        let mut verdict = Plain.check(image);
+        if *self == OverlapAccepted && verdict.number == 12 {
+            verdict.number = 0;
+        }
+        if *self == PlaceOfFirstGrain {
+            verdict.place = 0;
+        }
+        verdict
+    }
+
+    fn header(&self, image: &[u8]) -> Head {
+        let mut head = Plain.header(image);
+        if *self == DescriptorNumbersSwapped {
+            std::mem::swap(&mut head.descriptor, &mut head.descriptor_sectors);
+        }
+        head
+    }
+
+    fn lookup(&self, image: &[u8], sector: u64) -> Located {
+        let mut located = Plain.lookup(image, sector);
+        if *self == PackedOffsetForgotten {
+            located.offset = 0;
+        }
+        located
+    }
+
+    fn chain(&self, layers: &[u8], lengths: &[u64], sector: u64) -> Located {
+        let mut located = Plain.chain(layers, lengths, sector);
+        if *self == ZeroAsksTheParent && located.kind == plain::ZERO && located.layer > 0 {
+            let below = located.layer as usize;
+            let bytes: u64 = lengths[..below].iter().sum();
+            located = Plain.chain(&layers[..bytes as usize], &lengths[..below], sector);
+        }
+        let sum = lengths
+            .iter()
+            .fold(0, |sum: u64, next| sum.wrapping_add(*next));
+        if *self == LengthsThatWrap && located.number == 24 && sum == layers.len() as u64 {
+            located.number = 1;
+        }
+        located
+    }
+
+    fn read(&self, image: &[u8], sector: u64) -> Part {
+        let mut part = Plain.read(image, sector);
+        if *self == ShortPart && part.length != 512 {
+            part.length = part.length.min(500);
+        }
+        part
+    }
+
+    fn normal(&self, image: &[u8], out: &mut [u8]) -> Written {
+        let written = Plain.normal(image, out);
+        let past = written.number == 0 && *self == BytePastTheResult;
+        let refused = written.number != 0 && *self == ByteOnRefusal;
+        if let (true, Some(byte)) = (past || refused, out.get_mut(written.length as usize)) {
+            *byte = byte.wrapping_add(1);
+        }
+        written
+    }
+
+    fn collapse(&self, lower: &[u8], upper: &[u8], out: &mut [u8]) -> Written {
+        if *self == LowerOverUpper {
+            return Plain.collapse(upper, lower, out);
+        }
+        Plain.collapse(lower, upper, out)
+    }
+
+    fn describe(&self, text: &[u8], list: &mut [Extent]) -> Described {
+        let mut described = Plain.describe(text, list);
+        let past = described.number == 0 && *self == RecordPastTheLast;
+        let refused = described.number != 0 && *self == RecordOnRefusal;
+        if let (true, Some(record)) = (past || refused, list.get_mut(described.extents as usize)) {
+            *record = Extent::default();
+        }
+        if *self == LineFromZero {
+            described.place = described.place.saturating_sub(1);
+        }
+        described
+    }
+
+    fn find(&self, list: &[Extent], sector: u64) -> Found {
+        let wraps = |extent: &Extent| extent.first.checked_add(extent.sectors).is_none();
+        let mut found = Plain.find(list, sector);
+        if *self == EndThatWraps && found.number == 0 && wraps(&list[found.extent as usize]) {
+            found.number = 20;
+        }
+        found
+    }
+}
+
+fn tally(mistake: Mistake, count: u64) -> Tally {
+    let calls = vec![
+        Call::Check,
+        Call::Header,
+        Call::Lookup,
+        Call::Chain,
+        Call::Read,
+        Call::Normal,
+        Call::Collapse,
+        Call::Descriptor,
+        Call::Find,
+    ];
+    let mut run = Run::new([&mistake, &Plain], calls, PathBuf::new());
+    run.quiet = true;
+    run_cases(&mut run, 1, 0, count);
+    run.tally
+}
+
+#[test]
+fn each_mistake_is_caught() {
+    for mistake in [
+        OverlapAccepted,
+        PlaceOfFirstGrain,
+        DescriptorNumbersSwapped,
+        PackedOffsetForgotten,
+        ZeroAsksTheParent,
+        LengthsThatWrap,
+        ShortPart,
+        BytePastTheResult,
+        ByteOnRefusal,
+        LowerOverUpper,
+        RecordPastTheLast,
+        RecordOnRefusal,
+        LineFromZero,
+        EndThatWraps,
+    ] {
+        let tally = tally(mistake, 4000);
+        assert!(tally.differences > 0 && !tally.good(), "{mistake:?}");
+    }
+}
+
+#[test]
+fn the_plain_side_agrees_with_itself_and_reaches_every_place() {
+    let tally = tally(Mistake::None, 100_000);
+    assert_eq!(tally.differences, 0);
+    assert!(tally.good(), "{tally}");
+}

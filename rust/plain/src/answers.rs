@@ -1,0 +1,102 @@
+//! What the calls answer, in document 01's numbers. A field that does not apply is 0, and number 0 is an answer.
+
+/// A refusal: its number and its place.
+#[derive(Clone, Copy, Debug, PartialEq, Eq)]
+pub struct Refusal {
+    pub number: u64,
+    pub place: u64,
+}
+
+/// A refusal whose place is 0.
+pub fn refusal(number: u64) -> Refusal {
+    Refusal { number, place: 0 }
+}
+
+/// The full check's answer.
+#[derive(Clone, Copy, Debug, Default, PartialEq, Eq)]
+pub struct Verdict {
+    pub number: u64,
+    pub place: u64,
+    pub capacity: u64,
+    pub grain_size: u64,
+}
+
+/// What a header says, once refusals 1 to 7 are out of the way.
+#[derive(Clone, Copy, Debug, Default, PartialEq, Eq)]
+pub struct Head {
+    pub number: u64,
+    pub place: u64,
+    pub capacity: u64,
+    pub grain_size: u64,
+    pub descriptor: u64,
+    pub descriptor_sectors: u64,
+}
+
+/// `Located::kind` of a grain that the parent is asked for.
+pub const ABSENT: u64 = 0;
+/// `Located::kind` of a grain of zeros.
+pub const ZERO: u64 = 1;
+/// `Located::kind` of a stored grain.
+pub const STORED: u64 = 2;
+/// `Located::kind` of a compressed grain.
+pub const PACKED: u64 = 3;
+
+/// Where a virtual sector comes from.
+#[derive(Clone, Copy, Debug, Default, PartialEq, Eq)]
+pub struct Located {
+    pub number: u64,
+    pub layer: u64,
+    pub place: u64,
+    pub kind: u64,
+    pub sector: u64,
+    pub size: u64,
+    pub offset: u64,
+}
+
+/// The part of the image that the grain reader hands back, in bytes.
+#[derive(Clone, Copy, Debug, Default, PartialEq, Eq)]
+pub struct Part {
+    pub at: u64,
+    pub length: u64,
+}
+
+/// The answer of collapse and normal form: the result's length in bytes.
+#[derive(Clone, Copy, Debug, Default, PartialEq, Eq)]
+pub struct Written {
+    pub number: u64,
+    pub place: u64,
+    pub length: u64,
+}
+
+/// What a descriptor says beside its extents.
+#[derive(Clone, Copy, Debug, Default, PartialEq, Eq)]
+pub struct Described {
+    pub number: u64,
+    pub place: u64,
+    pub extents: u64,
+    pub version: u64,
+    pub cid: u64,
+    pub parent_cid: u64,
+    pub type_at: u64,
+    pub type_length: u64,
+}
+
+/// One extent of a descriptor. Access: 1 RW, 2 RDONLY, 3 NOACCESS. Kind: 1 FLAT, 2 VMFS, 3 SPARSE, 4 VMFSSPARSE, 5 ZERO.
+#[derive(Clone, Copy, Debug, Default, PartialEq, Eq)]
+pub struct Extent {
+    pub first: u64,
+    pub sectors: u64,
+    pub access: u64,
+    pub kind: u64,
+    pub name_at: u64,
+    pub name_length: u64,
+    pub offset: u64,
+}
+
+/// The number, in the list, of the extent that holds a sector.
+#[derive(Clone, Copy, Debug, Default, PartialEq, Eq)]
+pub struct Found {
+    pub number: u64,
+    pub place: u64,
+    pub extent: u64,
+}

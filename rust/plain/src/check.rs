@@ -1,0 +1,180 @@
+//! The full check: refusals 1 to 12, each over the whole image before the next.
+
+use crate::answers::{refusal, Refusal, Verdict};
+use crate::header::judge;
+use crate::image::{Entry, Image};
+use crate::numbers::past;
+
+/// An area: first sector and sectors.
+type Area = (u64, u64);
+
+/// The public call.
+pub fn check(bytes: &[u8]) -> Verdict {
+    match accept(bytes) {
+        Ok(image) => Verdict {
+            capacity: image.header.capacity,
+            grain_size: image.header.grain_size,
+            ..Verdict::default()
+        },
+        Err(refusal) => Verdict {
+            number: refusal.number,
+            place: refusal.place,
+            ..Verdict::default()
+        },
+    }
+}
+
+/// The image, if it meets every rule.
+pub fn accept(bytes: &[u8]) -> Result<Image<'_>, Refusal> {
+    let image = Image {
+        bytes,
+        header: judge(bytes)?,
+    };
+    judge_areas(&image)?;
+    let grains = grains(&image);
+    for (grain, at) in &grains {
+        image.judge_past(*grain, *at)?;
+    }
+    for (grain, at) in &grains {
+        image.judge_marker(*grain, *at)?;
+    }
+    judge_copies(&image)?;
+    if overlap(areas(&image, &grains)) {
+        return Err(refusal(12));
+    }
+    Ok(image)
+}
+
+/// Refusal 8.
+fn judge_areas(image: &Image) -> Result<(), Refusal> {
+    let header = &image.header;
+    let f = image.sectors();
+    if (header.descriptor == 0) != (header.descriptor_sectors == 0)
+        || past(header.descriptor, header.descriptor_sectors, f)
+    {
+        return Err(refusal(8));
+    }
+    image.judge_directory()?;
+    if header.redundant != 0 && past(header.redundant, header.directory_sectors(), f) {
+        return Err(refusal(8));
+    }
+    let mut tables = tables(image, header.directory);
+    if header.redundant != 0 {
+        tables.extend(self::tables(image, header.redundant));
+    }
+    if tables.iter().any(|table| image.table_past(*table)) {
+        return Err(refusal(8));
+    }
+    Ok(())
+}
+
+/// The sectors of the tables that the directory at sector `at` names.
+fn tables(image: &Image, at: u64) -> Vec<u64> {
+    let mut tables = Vec::new();
+    for entry in image.directory(at) {
+        if let Entry::Sector(table) = entry {
+            tables.push(table);
+        }
+    }
+    tables
+}
+
+/// Every grain that the primary tables name, with its sector, in virtual order. Needs 8 passed.
+fn grains(image: &Image) -> Vec<(u64, u64)> {
+    let mut grains = Vec::new();
+    let directory = image.directory(image.header.directory);
+    for (index, entry) in directory.into_iter().enumerate() {
+        if let Entry::Sector(table) = entry {
+            for grain in image.grains_of(index as u64) {
+                if let Entry::Sector(at) = image.grain_entry(table, grain) {
+                    grains.push((grain, at));
+                }
+            }
+        }
+    }
+    grains
+}
+
+/// Refusal 11: the redundant directory has 0 and 1 where the primary has, and its tables equal the primary's.
+fn judge_copies(image: &Image) -> Result<(), Refusal> {
+    if image.header.redundant == 0 {
+        return Ok(());
+    }
+    let primary = image.directory(image.header.directory);
+    let redundant = image.directory(image.header.redundant);
+    for (index, pair) in primary.into_iter().zip(redundant).enumerate() {
+        let same = match pair {
+            (Entry::Sector(one), Entry::Sector(other)) => image
+                .grains_of(index as u64)
+                .all(|grain| image.grain_entry(one, grain) == image.grain_entry(other, grain)),
+            (one, other) => one == other,
+        };
+        if !same {
+            return Err(refusal(11));
+        }
+    }
+    Ok(())
+}
+
+/// Every area of the image. Each has at least one sector.
+fn areas(image: &Image, grains: &[(u64, u64)]) -> Vec<Area> {
+    let header = &image.header;
+    let f = image.sectors();
+    let mut areas = vec![(0, header.header_sectors())];
+    if header.descriptor != 0 {
+        areas.push((header.descriptor, header.descriptor_sectors));
+    }
+    for directory in [header.directory, header.redundant] {
+        if directory != 0 {
+            areas.push((directory, header.directory_sectors()));
+            for table in tables(image, directory) {
+                areas.push((table, header.table_sectors()));
+            }
+        }
+    }
+    if header.footer {
+        areas.push((f - 2, 1));
+        areas.push((f - 1, 1));
+    }
+    for (_, at) in grains {
+        areas.push((*at, image.grain_sectors(*at)));
+    }
+    areas
+}
+
+/// Refusal 12. In order of first sectors, two areas share a sector exactly if some area reaches the next one's first.
+fn overlap(mut areas: Vec<Area>) -> bool {
+    areas.sort_unstable();
+    areas
+        .windows(2)
+        .any(|pair| pair[0].0 + pair[0].1 > pair[1].0)
+}
+
+#[cfg(test)]
+mod tests {
+    use super::overlap;
+    use std::collections::HashSet;
+
+    /// The same question, asked sector by sector.
+    fn shared(areas: &[(u64, u64)]) -> bool {
+        let mut taken = HashSet::new();
+        areas
+            .iter()
+            .any(|(first, sectors)| (*first..first + sectors).any(|sector| !taken.insert(sector)))
+    }
+
+    #[test]
+    fn intervals_agree_with_a_set_of_sectors() {
+        let (mut state, mut clashes) = (7_u64, 0);
+        for _ in 0..5000 {
+            let mut areas = Vec::new();
+            for _ in 0..6 {
+                state = state.wrapping_mul(6364136223846793005).wrapping_add(1);
+                areas.push((state >> 58, 1 + (state >> 50) % 7));
+            }
+            clashes += u32::from(shared(&areas));
+            assert_eq!(overlap(areas.clone()), shared(&areas), "{areas:?}");
+        }
+        assert!(clashes > 500 && clashes < 4900, "{clashes}");
+    }
+}

@@ -1,0 +1,212 @@
+//! The two headers: refusals 1 to 7.
+
+use crate::answers::{refusal, Head, Refusal};
+use crate::numbers::{number, sector, up, whole_sectors, SECTOR};
+
+#[derive(Clone, Copy, Debug, PartialEq, Eq)]
+pub enum Kind {
+    Kdmv,
+    Cowd,
+}
+
+/// What a header that passed 1 to 7 says.
+#[derive(Clone, Copy, Debug)]
+pub struct Header {
+    pub kind: Kind,
+    pub capacity: u64,
+    pub grain_size: u64,
+    /// KDMV's flags; 0 for COWD, whose flags are not judged.
+    pub flags: u64,
+    pub descriptor: u64,
+    pub descriptor_sectors: u64,
+    /// 0 for none.
+    pub redundant: u64,
+    /// The directory's sector: the footer's where there is one.
+    pub directory: u64,
+    /// Entries that the directory's area has room for: n, or COWD's stored count.
+    pub stored_entries: u64,
+    pub footer: bool,
+}
+
+const NEWLINE_TEST: u64 = 0x1;
+const USE_REDUNDANT: u64 = 0x2;
+const ZEROED: u64 = 0x4;
+const COMPRESSED: u64 = 0x10000;
+const MARKERS: u64 = 0x20000;
+const ALL_FLAGS: u64 = NEWLINE_TEST | USE_REDUNDANT | ZEROED | COMPRESSED | MARKERS;
+
+const AT_END: u64 = u64::MAX;
+const MOST_CAPACITY: u64 = 1 << 31;
+const MOST_GRAIN: u64 = 2048;
+
+impl Header {
+    pub fn entries_per_table(&self) -> u64 {
+        match self.kind {
+            Kind::Kdmv => 512,
+            Kind::Cowd => 4096,
+        }
+    }
+
+    /// Sectors of one table: 4, or 32 for COWD.
+    pub fn table_sectors(&self) -> u64 {
+        self.entries_per_table() * 4 / SECTOR
+    }
+
+    pub fn header_sectors(&self) -> u64 {
+        match self.kind {
+            Kind::Kdmv => 1,
+            Kind::Cowd => 4,
+        }
+    }
+
+    pub fn grains(&self) -> u64 {
+        up(self.capacity, self.grain_size)
+    }
+
+    /// n: the directory entries in use.
+    pub fn directory_entries(&self) -> u64 {
+        up(self.capacity, self.entries_per_table() * self.grain_size)
+    }
+
+    pub fn directory_sectors(&self) -> u64 {
+        up(self.stored_entries * 4, SECTOR)
+    }
+
+    pub fn packed(&self) -> bool {
+        self.flags & COMPRESSED != 0
+    }
+}
+
+/// The header of an image, or the first of refusals 1 to 7.
+pub fn judge(image: &[u8]) -> Result<Header, Refusal> {
+    if image.len() < 4 {
+        return Err(refusal(1));
+    }
+    match &image[..4] {
+        [0x4b, 0x44, 0x4d, 0x56] => kdmv(image),
+        [0x43, 0x4f, 0x57, 0x44] => cowd(image),
+        _ => Err(refusal(2)),
+    }
+}
+
+fn kdmv(image: &[u8]) -> Result<Header, Refusal> {
+    if image.len() < 512 {
+        return Err(refusal(1));
+    }
+    let version = number(image, 4, 4);
+    let flags = number(image, 8, 4);
+    let capacity = number(image, 12, 8);
+    let grain_size = number(image, 20, 8);
+    let entries_per_table = number(image, 44, 4);
+    let redundant = number(image, 48, 8);
+    let mut directory = number(image, 56, 8);
+    let compression = number(image, 77, 2);
+
+    if !(1..=3).contains(&version) {
+        return Err(refusal(3));
+    }
+    if flags & NEWLINE_TEST != 0 && image[73..77] != [0x0a, 0x20, 0x0d, 0x0a] {
+        return Err(refusal(4));
+    }
+    let compressed = flags & COMPRESSED != 0;
+    let markers = flags & MARKERS != 0;
+    if flags & !ALL_FLAGS != 0
+        || compression > 1
+        || (compression == 1) != compressed
+        || (markers && !compressed)
+        || (flags & USE_REDUNDANT != 0 && redundant == 0)
+        || (directory == AT_END && !markers)
+    {
+        return Err(refusal(5));
+    }
+    if !(1..=MOST_CAPACITY).contains(&capacity)
+        || !grain_size.is_power_of_two()
+        || !(8..=MOST_GRAIN).contains(&grain_size)
+        || entries_per_table != 512
+    {
+        return Err(refusal(6));
+    }
+    let footer = directory == AT_END;
+    if footer {
+        directory = footer_directory(image).ok_or_else(|| refusal(7))?;
+    }
+    Ok(Header {
+        kind: Kind::Kdmv,
+        capacity,
+        grain_size,
+        flags,
+        descriptor: number(image, 28, 8),
+        descriptor_sectors: number(image, 36, 8),
+        redundant,
+        directory,
+        stored_entries: up(capacity, 512 * grain_size),
+        footer,
+    })
+}
+
+/// The directory sector that the footer gives; nothing where the footer's rules are broken.
+fn footer_directory(image: &[u8]) -> Option<u64> {
+    let f = whole_sectors(image);
+    if image.len() as u64 % SECTOR != 0 || f < 4 {
+        return None;
+    }
+    let first = sector(image, 0);
+    let footer = sector(image, f - 2);
+    let last = sector(image, f - 1);
+    let same = first[..56] == footer[..56] && first[64..] == footer[64..];
+    let directory = number(footer, 56, 8);
+    if same && last.iter().all(|byte| *byte == 0) && directory != AT_END {
+        Some(directory)
+    } else {
+        None
+    }
+}
+
+fn cowd(image: &[u8]) -> Result<Header, Refusal> {
+    if image.len() < 2048 {
+        return Err(refusal(1));
+    }
+    let capacity = number(image, 12, 4);
+    let grain_size = number(image, 16, 4);
+    let stored_entries = number(image, 24, 4);
+    if number(image, 4, 4) != 1 {
+        return Err(refusal(3));
+    }
+    if !(1..=MOST_CAPACITY).contains(&capacity)
+        || !grain_size.is_power_of_two()
+        || grain_size > MOST_GRAIN
+        || stored_entries < up(capacity, 4096 * grain_size)
+    {
+        return Err(refusal(6));
+    }
+    Ok(Header {
+        kind: Kind::Cowd,
+        capacity,
+        grain_size,
+        flags: 0,
+        descriptor: 0,
+        descriptor_sectors: 0,
+        redundant: 0,
+        directory: number(image, 20, 4),
+        stored_entries,
+        footer: false,
+    })
+}
+
+/// The public call: what the header says, or a refusal of 1 to 7.
+pub fn header(image: &[u8]) -> Head {
+    match judge(image) {
+        Ok(header) => Head {
+            capacity: header.capacity,
+            grain_size: header.grain_size,
+            descriptor: header.descriptor,
+            descriptor_sectors: header.descriptor_sectors,
+            ..Head::default()
+        },
+        Err(refusal) => Head {
+            number: refusal.number,
+            place: refusal.place,
+            ..Head::default()
+        },
+    }
+}

@@ -1,0 +1,114 @@
+//! Entries and grains of an image whose header is known.
+
+use crate::answers::{refusal, Refusal};
+use crate::header::{Header, Kind};
+use crate::numbers::{number, past, sector, up, whole_sectors, SECTOR};
+
+/// What a directory or table entry says.
+#[derive(Clone, Copy, Debug, PartialEq, Eq)]
+pub enum Entry {
+    Absent,
+    Zero,
+    /// The sector of a table or of a grain.
+    Sector(u64),
+}
+
+#[derive(Clone, Copy)]
+pub struct Image<'a> {
+    pub bytes: &'a [u8],
+    pub header: Header,
+}
+
+impl<'a> Image<'a> {
+    /// F.
+    pub fn sectors(&self) -> u64 {
+        whole_sectors(self.bytes)
+    }
+
+    /// Document 01's entry table: 1 is zeros in KDMV and a sector in COWD.
+    fn meaning(&self, entry: u64) -> Entry {
+        match (self.header.kind, entry) {
+            (_, 0) => Entry::Absent,
+            (Kind::Kdmv, 1) => Entry::Zero,
+            (_, at) => Entry::Sector(at),
+        }
+    }
+
+    /// Entry `index` of the directory or table that starts at sector `at`, which was found to lie below F.
+    pub fn entry(&self, at: u64, index: u64) -> Entry {
+        self.meaning(number(self.bytes, at * SECTOR + index * 4, 4))
+    }
+
+    /// The entries in use of the directory at sector `at`.
+    pub fn directory(&self, at: u64) -> Vec<Entry> {
+        (0..self.header.directory_entries())
+            .map(|index| self.entry(at, index))
+            .collect()
+    }
+
+    /// The grains that directory entry `index` stands for; past the last grain there are none.
+    pub fn grains_of(&self, index: u64) -> std::ops::Range<u64> {
+        let per_table = self.header.entries_per_table();
+        index * per_table..((index + 1) * per_table).min(self.header.grains())
+    }
+
+    /// The entry of grain `grain` in the table at sector `table`.
+    pub fn grain_entry(&self, table: u64, grain: u64) -> Entry {
+        self.entry(table, grain % self.header.entries_per_table())
+    }
+
+    /// Whether the table at sector `table` runs past F.
+    pub fn table_past(&self, table: u64) -> bool {
+        past(table, self.header.table_sectors(), self.sectors())
+    }
+
+    /// A marker's two numbers: first virtual sector and size. Its sector lies below F.
+    pub fn marker(&self, at: u64) -> (u64, u64) {
+        let bytes = sector(self.bytes, at);
+        (number(bytes, 0, 8), number(bytes, 8, 4))
+    }
+
+    /// The sectors of the grain at `at`; a packed one's marker lies below F.
+    pub fn grain_sectors(&self, at: u64) -> u64 {
+        if self.header.packed() {
+            up(12 + self.marker(at).1, SECTOR)
+        } else {
+            self.header.grain_size
+        }
+    }
+
+    /// Refusal 9 for one grain.
+    pub fn judge_past(&self, grain: u64, at: u64) -> Result<(), Refusal> {
+        let marker_past = self.header.packed() && at >= self.sectors();
+        if marker_past || past(at, self.grain_sectors(at), self.sectors()) {
+            return Err(Refusal {
+                number: 9,
+                place: grain,
+            });
+        }
+        Ok(())
+    }
+
+    /// Refusal 10 for one grain that passed 9.
+    pub fn judge_marker(&self, grain: u64, at: u64) -> Result<(), Refusal> {
+        if self.header.packed() {
+            let (first, size) = self.marker(at);
+            if size == 0 || first != grain * self.header.grain_size {
+                return Err(Refusal {
+                    number: 10,
+                    place: grain,
+                });
+            }
+        }
+        Ok(())
+    }
+
+    /// The directory's part of 8, which check and lookup share: sector 0, or past F.
+    pub fn judge_directory(&self) -> Result<(), Refusal> {
+        let at = self.header.directory;
+        if at == 0 || past(at, self.header.directory_sectors(), self.sectors()) {
+            return Err(refusal(8));
+        }
+        Ok(())
+    }
+}

@@ -1,0 +1,25 @@
+//! Document 01, written out plainly and independently of the proved library, so that the two can be compared.
+//!
+//! Read it beside document 01: each file is one section of it. Nothing here is fast or clever on purpose.
+
+mod answers;
+mod chain;
+mod check;
+mod describe;
+mod header;
+mod image;
+mod line;
+mod lookup;
+mod numbers;
+mod write;
+
+pub use answers::{
+    Described, Extent, Found, Head, Located, Part, Refusal, Verdict, Written, ABSENT, PACKED,
+    STORED, ZERO,
+};
+pub use chain::chain;
+pub use check::check;
+pub use describe::{describe, find, MOST_EXTENTS, MOST_TEXT};
+pub use header::header;
+pub use lookup::{lookup, read};
+pub use write::{collapse, normal, over};
