@@ -1,8 +1,9 @@
 // Answers in document 01's numbers, for whoever prints them or hands them on.
 ghost use mathlib.Core.Path.{_≡_};
-ghost use Rattle.format.specs.Answers.{number, place, head, verdict, served, unserved, located, chained};
+ghost use Rattle.format.specs.Answers.{number, place, head, verdict, served, unserved, located, chained, written};
 use format::ChainAnswer;
 use format::CheckAnswer;
+use format::CollapseAnswer;
 use format::Head;
 use format::HeaderAnswer;
 use format::Located;
@@ -10,6 +11,7 @@ use format::LookupAnswer;
 use format::Refusal;
 use format::Source;
 use format::Verdict;
+use format::Written;
 
 pub fn number_of(refusal: Refusal) -> u64
     ensures { λ r. ⌜ r ≡ number refusal ⌝ }
@@ -164,6 +166,23 @@ pub fn head_of(a: HeaderAnswer) -> Head
             grain_size: 0,
             descriptor: 0,
             descriptor_sectors: 0,
+        },
+    }
+}
+
+pub fn written_of(a: CollapseAnswer) -> Written
+    ensures { λ r. ⌜ r ≡ written a ⌝ }
+{
+    match a {
+        CollapseAnswer::Written(length) => Written {
+            number: 0,
+            place: 0,
+            length,
+        },
+        CollapseAnswer::Refused(refusal) => Written {
+            number: number_of(refusal),
+            place: place_of(refusal),
+            length: 0,
         },
     }
 }

@@ -1,14 +1,17 @@
 // The C face: each public call, with its answer in document 01's numbers. A slice is a pointer and a count.
 ghost use mathlib.Core.Path.{_≡_};
+ghost use lib.ListN.{length};
 ghost use Rattle.format.specs.Header.{judge};
 ghost use Rattle.format.specs.Check.{check};
 ghost use Rattle.format.specs.Source.{lookup};
 ghost use Rattle.format.specs.Chain.{chain};
-ghost use Rattle.format.specs.Answers.{head, verdict, located, chained, part};
+ghost use Rattle.format.specs.Collapse.{normal, normalOutput, collapse, collapseOutput};
+ghost use Rattle.format.specs.Answers.{head, verdict, located, chained, part, written};
 use format::Head;
 use format::Located;
 use format::Part;
 use format::Verdict;
+use format::Written;
 
 mod extents;
 
@@ -45,4 +48,20 @@ pub extern "C" fn anhkhovet_read(image: &[u8], sector: u64) -> Part
     ensures { λ r. ⌜ r ≡ part (lookup (now (image .entry)) sector) ⌝ }
 {
     lookup::part(image, sector)
+}
+
+#[no_mangle]
+pub extern "C" fn anhkhovet_normal(image: &[u8], out: &mut [u8]) -> Written
+    ensures { λ r. ⌜ r ≡ written (normal (now (image .entry)) (length (now (out .entry)))) ⌝ }
+    ensures { λ r. ⌜ now (out .exit) ≡ normalOutput (now (image .entry)) (now (out .entry)) ⌝ }
+{
+    answers::written_of(collapse::normal(image, &mut *out))
+}
+
+#[no_mangle]
+pub extern "C" fn anhkhovet_collapse(lower: &[u8], upper: &[u8], out: &mut [u8]) -> Written
+    ensures { λ r. ⌜ r ≡ written (collapse (now (lower .entry)) (now (upper .entry)) (length (now (out .entry)))) ⌝ }
+    ensures { λ r. ⌜ now (out .exit) ≡ collapseOutput (now (lower .entry)) (now (upper .entry)) (now (out .entry)) ⌝ }
+{
+    answers::written_of(collapse::collapse(lower, upper, &mut *out))
 }

@@ -1,0 +1,120 @@
+// Collapse of a lower and an upper image, and the normal form of one, into lent output.
+ghost use mathlib.Core.Path.{_≡_};
+ghost use lib.ListN.{length};
+ghost use Rattle.format.specs.Header.{headerOf};
+ghost use Rattle.format.specs.Check.{check};
+ghost use Rattle.format.specs.Chain.{unlike};
+ghost use Rattle.format.specs.Collapse.{collapsed, unlessUnaccepted, notCollapsible, fitted, normal, normalOutput, collapseFrom, collapse, collapseOutput};
+ghost use Rattle.collapse.specs.Layers.{layered, imageOf, lengthOf, Layers};
+ghost use Rattle.collapse.specs.Answered.{acceptedHeader, collapseAccepted, Checked, Answered};
+use format::CheckAnswer;
+use format::CollapseAnswer;
+use format::Header;
+use format::HeaderAnswer;
+use format::Refusal;
+
+mod layers;
+mod write;
+
+// Where a grain of two layers comes from: if it is stored, the layer and the sector.
+pub enum GrainSource {
+    Absent,
+    Zero,
+    Lower(u64),
+    Upper(u64),
+}
+
+// The header of an accepted image, or why it is refused.
+fn accepted(image: &[u8]) -> HeaderAnswer
+    ensures { λ r. ⌜ r ≡ acceptedHeader (check (now (image .entry))) (headerOf (now (image .entry))) ⌝ }
+{
+    let checked = accept::check(image);
+    match checked {
+        CheckAnswer::Refused(r) => HeaderAnswer::Refused(r),
+        CheckAnswer::Accepted {
+            capacity: _,
+            grain_size: _,
+        } => header::judge(image),
+    }
+}
+
+fn not_collapsible(h: Header) -> bool
+    ensures { λ r. ⌜ r ≡ notCollapsible h ⌝ }
+{
+    h.cowd | h.packed
+}
+
+fn unlike_of(h: Header, k: Header) -> bool
+    ensures { λ r. ⌜ r ≡ unlike h k ⌝ }
+{
+    !((h.capacity == k.capacity) & (h.grain_size == k.grain_size))
+}
+
+// 21, or the image written.
+fn write_fitted(lower: &[u8], h: Header, upper: &[u8], k: Header, out: &mut [u8]) -> CollapseAnswer
+    requires { ⌜ Layers (now lower) h (now upper) k ⌝ }
+    ensures { λ r. ⌜ Answered (fitted (length (now (out .entry))) (lengthOf (now (lower .entry)) h (now (upper .entry)) k)) (imageOf (now (lower .entry)) h (now (upper .entry)) k) (now (out .entry)) r (now (out .exit)) ⌝ }
+{
+    let long = write::image_length(lower, h, upper, k);
+    if (out.len() as u64) < long {
+        return CollapseAnswer::Refused(Refusal::TooLittleRoom);
+    }
+    write::write_image(&mut *out, lower, h, upper, k);
+    CollapseAnswer::Written(long)
+}
+
+// Of two accepted images: 23, 22, 21.
+fn collapse_layers(
+    lower: &[u8],
+    h: Header,
+    upper: &[u8],
+    k: Header,
+    out: &mut [u8],
+) -> CollapseAnswer
+    requires { ⌜ Checked (now lower) h × Checked (now upper) k ⌝ }
+    ensures { λ r. ⌜ Answered (collapseFrom h k (layered (now (lower .entry)) h (now (upper .entry)) k) (length (now (out .entry)))) (imageOf (now (lower .entry)) h (now (upper .entry)) k) (now (out .entry)) r (now (out .exit)) ⌝ }
+{
+    if not_collapsible(h) | not_collapsible(k) {
+        return CollapseAnswer::Refused(Refusal::NotCollapsible);
+    }
+    if unlike_of(h, k) {
+        return CollapseAnswer::Refused(Refusal::LayersDiffer);
+    }
+    write_fitted(lower, h, upper, k, &mut *out)
+}
+
+// Where the lower image is accepted: the upper's check, then the rest.
+fn collapse_onto(lower: &[u8], h: Header, upper: &[u8], out: &mut [u8]) -> CollapseAnswer
+    requires { ⌜ Checked (now lower) h ⌝ }
+    ensures { λ r. ⌜ Answered (unlessUnaccepted (check (now (upper .entry))) (collapseAccepted (now (lower .entry)) (now (upper .entry)) (length (now (out .entry))))) (collapsed (now (lower .entry)) (now (upper .entry))) (now (out .entry)) r (now (out .exit)) ⌝ }
+{
+    let judged = accepted(upper);
+    match judged {
+        HeaderAnswer::Refused(r) => CollapseAnswer::Refused(r),
+        HeaderAnswer::Known(k) => collapse_layers(lower, h, upper, k, &mut *out),
+    }
+}
+
+// The collapsed image of both: a grain is the upper's unless absent there. Bytes past the result, and all on a refusal, are kept.
+pub fn collapse(lower: &[u8], upper: &[u8], out: &mut [u8]) -> CollapseAnswer
+    ensures { λ r. ⌜ r ≡ collapse (now (lower .entry)) (now (upper .entry)) (length (now (out .entry))) ⌝ }
+    ensures { λ r. ⌜ now (out .exit) ≡ collapseOutput (now (lower .entry)) (now (upper .entry)) (now (out .entry)) ⌝ }
+{
+    let judged = accepted(lower);
+    match judged {
+        HeaderAnswer::Refused(r) => CollapseAnswer::Refused(r),
+        HeaderAnswer::Known(h) => collapse_onto(lower, h, upper, &mut *out),
+    }
+}
+
+// The same from one image: collapsed onto itself, with one check.
+pub fn normal(image: &[u8], out: &mut [u8]) -> CollapseAnswer
+    ensures { λ r. ⌜ r ≡ normal (now (image .entry)) (length (now (out .entry))) ⌝ }
+    ensures { λ r. ⌜ now (out .exit) ≡ normalOutput (now (image .entry)) (now (out .entry)) ⌝ }
+{
+    let judged = accepted(image);
+    match judged {
+        HeaderAnswer::Refused(r) => CollapseAnswer::Refused(r),
+        HeaderAnswer::Known(h) => collapse_layers(image, h, image, h, &mut *out),
+    }
+}

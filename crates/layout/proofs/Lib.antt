@@ -1,0 +1,9 @@
+pub mod Sizes
+pub mod Head
+pub mod Runs
+pub mod Padded
+pub mod Clipped
+pub mod Apart
+pub mod Stored
+pub mod Grains
+pub mod Image
