@@ -98,9 +98,13 @@ pub fn marker_broken(image: &[u8], size: u64, g: u64, e: u64) -> bool
     (marker_size(image, e) == 0) | !(base::u64_at(image, (512 * e) as usize) == g * size)
 }
 
+// Of a grain that is not packed no byte is read: it may lie anywhere on a disk.
 pub fn bad_marker(image: &[u8], packed: bool, size: u64, g: u64, e: u64) -> bool
     requires { ⌜ (512 * e + 12 ≤ length (now image)) × (g ≤ 0x80000000) × (size ≤ 2048) ⌝ }
     ensures { λ r. ⌜ r ≡ (packed && markerBroken (now (image .entry)) size g e) ⌝ }
 {
-    packed & marker_broken(image, size, g, e)
+    if packed {
+        return marker_broken(image, size, g, e);
+    }
+    false
 }

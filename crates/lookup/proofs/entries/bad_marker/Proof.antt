@@ -7,4 +7,5 @@ bad-marker-spec =
     tie.close
     (tie.spec
     (λ marker-broken-requires κs. search needs)
-    (λ returns. cc))
+    (λ returns. cc)
+    (λ returns-2. cc))
