@@ -50,6 +50,8 @@ module _ (long room : ℕ) (all : ℕ) (e : long ≡ all) (image d : List ℕ) w
       let t : Written long ≡ pick (ltb room all) (Refused TooLittleRoom) (Written all) = skip-lt _ _ _ _ _ l (ap Written e) in
       record { told = t; left = rw (← t) p }
 
+pub ruleset rooms = (too-short, written)
+
 -- ---- 23, 22, 21
 module _ {a b : Bool} (h k : Header) (m : Map) (room : ℕ) (image d : List ℕ) (e : a ≡ notCollapsible h)
     (f : b ≡ notCollapsible k) where

@@ -1,4 +1,4 @@
-use Rattle.collapse.proofs.Answers.{too-short, written}
+use Rattle.collapse.proofs.Answers.{rooms}
 use borrow.Author.Needs.{needs}
 use Rattle.collapse.proofs.write_fitted.Statement.{statement}
 use Rattle.collapse.proofs.write_fitted.Tie as tie
@@ -8,9 +8,7 @@ write-fitted-spec =
     tie.close
     (tie.spec
     (λ image-length-requires κs. search needs)
-    (λ c. too-short _ _ _ (c .before .image-length .ensures) _ _ (c .if1 .taken))
+    (λ returns. search rooms)
     (λ write-image-requires κs. search needs)
     (λ same-length. search needs)
-    (λ c.
-    let i = c .before .before .before .before in
-    written _ _ _ (i .before .image-length .ensures) _ _ (i .if1 .left) _ (c .before .before .write-image .ensures)))
+    (λ returns-2. search rooms))

@@ -1,5 +1,6 @@
 use Rattle.layout.proofs.Grains.{front-room}
 use Rattle.layout.proofs.Image.{image-join}
+use Rattle.collapse.specs.Layers.{layered}
 use borrow.Author.Needs.{needs}
 use Rattle.collapse.proofs.write.write_image.Statement.{statement}
 use Rattle.collapse.proofs.write.write_image.Tie as tie
@@ -13,5 +14,7 @@ write-image-spec =
     (λ same-length. search needs)
     (λ c.
     let f = c .before .before .before .before .before .before in
-    let s = f .before .before .before .before .before .pre in
-    image-join _ _ (s .0 .below .sound .sizes .low) _ _ _ _ (c .before .before .write-grains .ensures) (f .write-front .ensures) (front-room _ _ _ _ (s .1))))
+    let s = f .before .before .before .before .before in
+    let a = s .args in
+    image-join _ _ (s .pre .0 .below .sound .sizes .low) (layered (a .lower .now) (a .h) (a .upper .now) (a .k)) _ _ _
+    (c .before .before .write-grains .ensures) (f .write-front .ensures) (front-room _ _ _ _ (s .pre .1))))
