@@ -27,3 +27,5 @@ pub mod ExtentsLaid
 pub mod ExtentsLines
 pub mod ExtentsRead
 pub mod Extents
+pub mod NeverUsed
+pub mod NeverUsedCheck
