@@ -1,0 +1,79 @@
+//! The library that is measured: the proved one through its C face, or the plain one in its place.
+
+#[cfg(feature = "proved")]
+mod proved {
+    use plain::{Described, Extent, Located, Verdict, Written};
+
+    /// A struct of the one side from the other's, field by field.
+    macro_rules! same {
+        ($from:expr => $to:ident { $($field:ident),* }) => {{
+            let from = $from;
+            $to { $($field: from.$field),* }
+        }};
+    }
+
+    pub fn check(image: &[u8]) -> Verdict {
+        same!(anhkhovet::check(image) => Verdict { number, place, capacity, grain_size })
+    }
+
+    pub fn lookup(image: &[u8], sector: u64) -> Located {
+        same!(anhkhovet::lookup(image, sector) => Located { number, layer, place, kind, sector, size, offset })
+    }
+
+    pub fn chain(layers: &[u8], lengths: &[u64], sector: u64) -> Located {
+        same!(anhkhovet::chain(layers, lengths, sector) => Located { number, layer, place, kind, sector, size, offset })
+    }
+
+    #[cfg(feature = "writing")]
+    pub fn collapse(lower: &[u8], upper: &[u8], out: &mut [u8]) -> Option<Written> {
+        Some(same!(anhkhovet::collapse(lower, upper, out) => Written { number, place, length }))
+    }
+
+    #[cfg(feature = "descriptor")]
+    pub fn describe(text: &[u8]) -> Option<(Described, Vec<Extent>)> {
+        let mut records = [anhkhovet::Extent::default(); plain::MOST_EXTENTS];
+        let described = anhkhovet::descriptor(text, &mut records);
+        let described = same!(described => Described { number, place, extents, version, cid, parent_cid, type_at, type_length });
+        // The plain side hands over a list too: both pay for it.
+        let used = &records[..described.extents as usize];
+        let extents = used.iter().map(|from| same!(from => Extent { first, sectors, access, kind, name_at, name_length, offset }));
+        Some((described, extents.collect()))
+    }
+
+    /// Not in the archive yet.
+    #[cfg(not(feature = "writing"))]
+    pub fn collapse(_: &[u8], _: &[u8], _: &mut [u8]) -> Option<Written> {
+        None
+    }
+
+    /// Not in the archive yet.
+    #[cfg(not(feature = "descriptor"))]
+    pub fn describe(_: &[u8]) -> Option<(Described, Vec<Extent>)> {
+        None
+    }
+}
+
+#[cfg(feature = "proved")]
+pub use proved::{chain, check, collapse, describe, lookup};
+
+#[cfg(not(feature = "proved"))]
+mod stand_in {
+    use plain::{Described, Extent, Written};
+
+    pub fn collapse(lower: &[u8], upper: &[u8], out: &mut [u8]) -> Option<Written> {
+        Some(plain::over(plain::collapse(lower, upper, out.len()), out))
+    }
+
+    pub fn describe(text: &[u8]) -> Option<(Described, Vec<Extent>)> {
+        Some(plain::describe(text, plain::MOST_EXTENTS))
+    }
+}
+
+#[cfg(not(feature = "proved"))]
+pub use {
+    plain::{chain, check, lookup},
+    stand_in::{collapse, describe},
+};
+
+/// What stands in the table where the archive does not have a call.
+pub const MISSING: &str = "not in the archive";

@@ -1,0 +1,63 @@
+//! `check`: each image by itself.
+
+use crate::failure::{name, Failure, Refusal};
+use crate::files::Layers;
+use crate::print;
+use crate::progress::Progress;
+use serde_json::{json, Value};
+use std::path::{Path, PathBuf};
+
+fn one(path: &Path) -> Result<(u64, u64), Failure> {
+    let layers = Layers::one(path)?.scattered();
+    let _progress = Progress::start(&format!("checking {}", path.display()), 0);
+    let verdict = anhkhovet::check(layers.bytes(0));
+    layers.same()?;
+    if verdict.number == 0 {
+        Ok((verdict.capacity, verdict.grain_size))
+    } else {
+        Err(Failure::Refused(Refusal::new(
+            verdict.number,
+            verdict.place,
+            Some(path),
+        )))
+    }
+}
+
+pub fn check(paths: &[PathBuf], json: bool) -> Result<(), Failure> {
+    let mut objects = Vec::new();
+    let mut all = true;
+    for path in paths {
+        let mut object = json!({ "file": name(path) });
+        match one(path) {
+            Ok((capacity, grain_size)) => {
+                if !json {
+                    let file = path.display();
+                    print::text(&format!(
+                        "{file}: accepted, capacity {capacity} sectors, grain size {grain_size}\n"
+                    ))?;
+                }
+                object["accepted"] = json!({ "capacity": capacity, "grain_size": grain_size });
+            }
+            Err(failure) => {
+                all = false;
+                eprintln!("anhkhovet: {failure}");
+                merge(&mut object, failure.json());
+            }
+        }
+        objects.push(object);
+    }
+    if json {
+        print::object(&json!({ "files": objects }))?;
+    }
+    if all {
+        Ok(())
+    } else {
+        Err(Failure::Told)
+    }
+}
+
+fn merge(object: &mut Value, more: Value) {
+    if let (Value::Object(object), Value::Object(more)) = (object, more) {
+        object.extend(more);
+    }
+}

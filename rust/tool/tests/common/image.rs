@@ -1,0 +1,92 @@
+//! Images that a test writes by itself: too long to be samples, since they are mostly holes.
+#![allow(dead_code)]
+
+use std::fs::File;
+use std::os::unix::fs::FileExt;
+use std::path::Path;
+
+pub const GRAIN: u64 = 128;
+
+/// An image with a directory and all of its tables, as the collapsed layout has them.
+pub struct Image {
+    pub file: File,
+    pub capacity: u64,
+    tables: u64,
+    /// The first sector after the tables, at a grain's edge.
+    pub start: u64,
+}
+
+impl Image {
+    pub fn new(path: &Path, capacity: u64) -> Image {
+        let directory_entries = (capacity + 512 * GRAIN - 1) / (512 * GRAIN);
+        let tables = 1 + (directory_entries * 4 + 511) / 512;
+        let start = (tables + 4 * directory_entries + GRAIN - 1) / GRAIN * GRAIN;
+        let file = File::options()
+            .read(true)
+            .write(true)
+            .create_new(true)
+            .open(path)
+            .expect("a new file");
+        let image = Image {
+            file,
+            capacity,
+            tables,
+            start,
+        };
+        image.put(0, &head(capacity));
+        for entry in 0..directory_entries {
+            image.put(
+                512 + 4 * entry,
+                &((tables + 4 * entry) as u32).to_le_bytes(),
+            );
+        }
+        image.length(512 * start);
+        image
+    }
+
+    pub fn put(&self, at: u64, bytes: &[u8]) {
+        self.file.write_all_at(bytes, at).expect("written");
+    }
+
+    pub fn length(&self, length: u64) {
+        self.file.set_len(length).expect("a length");
+    }
+
+    /// Grain `grain` has table entry `entry`.
+    pub fn entry(&self, grain: u64, entry: u64) {
+        let table = self.tables + 4 * (grain / 512);
+        self.put(
+            512 * table + 4 * (grain % 512),
+            &(entry as u32).to_le_bytes(),
+        );
+    }
+
+    /// Every grain stored, in order, and all of them holes.
+    pub fn full(path: &Path, capacity: u64) -> Image {
+        let image = Image::new(path, capacity);
+        let grains = capacity / GRAIN;
+        for grain in 0..grains {
+            image.entry(grain, image.start + GRAIN * grain);
+        }
+        image.length(512 * (image.start + GRAIN * grains));
+        image
+    }
+}
+
+fn head(capacity: u64) -> Vec<u8> {
+    let mut head = b"KDMV".to_vec();
+    for number in [2u32, 5] {
+        head.extend(number.to_le_bytes());
+    }
+    for number in [capacity, GRAIN, 0, 0] {
+        head.extend(number.to_le_bytes());
+    }
+    head.extend(512u32.to_le_bytes());
+    for number in [0u64, 1, 0] {
+        head.extend(number.to_le_bytes());
+    }
+    head.push(0);
+    head.extend(b"\n \r\n");
+    head.resize(512, 0);
+    head
+}

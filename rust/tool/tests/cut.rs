@@ -1,0 +1,210 @@
+//! Files that change while they are mapped: a report, never an answer, and nothing left behind.
+
+mod common;
+#[path = "common/image.rs"]
+mod image;
+
+use common::{tool, Folder, Ran};
+use image::Image;
+use std::io::Read;
+use std::process::{Child, Stdio};
+
+/// Enough lines to fill a pipe many times, all of grains that are holes.
+const CAPACITY: u64 = 1 << 18;
+
+/// Digests until the pipe is full, so that the tool stands still with most of its work before it.
+fn begun(folder: &Folder, words: &[&str]) -> (Child, Vec<u8>) {
+    let mut child = tool(folder.path())
+        .args(words)
+        .stdout(Stdio::piped())
+        .stderr(Stdio::piped())
+        .spawn()
+        .expect("the tool starts");
+    let mut first = vec![0; 100];
+    let out = child.stdout.as_mut().expect("a pipe");
+    out.read_exact(&mut first).expect("a first line");
+    (child, first)
+}
+
+fn ended(begun: (Child, Vec<u8>)) -> Ran {
+    let (child, mut out) = begun;
+    let mut ran = Ran::of(child.wait_with_output().expect("it ends"));
+    out.append(&mut ran.out);
+    ran.out = out;
+    ran
+}
+
+/// Each line that was printed is a right one: the disk is all zeros.
+fn no_wrong_line(ran: &Ran) {
+    let text = ran.text();
+    let whole = text.rsplit_once('\n').map_or("", |(whole, _)| whole);
+    let zeros = "076a27c79e5ace2a3d47f9dd2e83e4ff6ea8872b3c2218f66c92b89b55f36560";
+    for (sector, line) in whole.lines().enumerate() {
+        assert_eq!(line, format!("{sector} {zeros}"));
+    }
+    assert!(whole.lines().count() < CAPACITY as usize);
+}
+
+#[test]
+fn cut_to_nothing() {
+    let folder = Folder::new();
+    let image = Image::full(&folder.at("disk"), CAPACITY);
+    let digest = begun(&folder, &["digest", "disk"]);
+    image.length(0);
+    let ran = ended(digest);
+    ran.ill("disk: the file was cut while it was read");
+    no_wrong_line(&ran);
+}
+
+#[test]
+fn a_layer_of_a_chain_cut_to_nothing() {
+    let folder = Folder::new();
+    let image = Image::full(&folder.at("disk"), CAPACITY);
+    Image::new(&folder.at("delta"), CAPACITY);
+    let digest = begun(&folder, &["digest", "disk", "delta"]);
+    image.length(0);
+    let ran = ended(digest);
+    ran.ill("disk: the file was cut while it was read");
+    no_wrong_line(&ran);
+}
+
+/// The rest of a cut page reads as zeros, with no fault: only its length tells.
+#[test]
+fn cut_inside_the_last_page() {
+    let folder = Folder::new();
+    let image = Image::full(&folder.at("disk"), CAPACITY);
+    let length = image.file.metadata().expect("facts").len();
+    let digest = begun(&folder, &["digest", "disk"]);
+    image.length(length - 100);
+    let ran = ended(digest);
+    ran.ill("disk: the file changed while it was read");
+    no_wrong_line(&ran);
+}
+
+#[test]
+fn written_to_at_the_same_length() {
+    let folder = Folder::new();
+    let image = Image::full(&folder.at("disk"), CAPACITY);
+    let length = image.file.metadata().expect("facts").len();
+    let digest = begun(&folder, &["digest", "disk"]);
+    image.put(length - 1, b"x");
+    let ran = ended(digest);
+    ran.ill("disk: the file changed while it was read");
+    no_wrong_line(&ran);
+}
+
+/// A reader that goes away, as `head` does, ends the tool with no word.
+#[test]
+fn nobody_reads_on() {
+    let folder = Folder::new();
+    Image::full(&folder.at("disk"), CAPACITY);
+    let (mut child, _) = begun(&folder, &["digest", "disk"]);
+    drop(child.stdout.take());
+    let ran = Ran::of(child.wait_with_output().expect("it ends"));
+    assert_eq!((ran.status, ran.err.as_str()), (None, ""));
+}
+
+mod writing {
+    use super::*;
+    use common::names;
+    use std::thread::sleep;
+    use std::time::{Duration, Instant};
+
+    /// Big enough that writing takes far longer than a test needs to see that it began.
+    const BIG: u64 = 1 << 21;
+
+    /// Starts a command that writes, and holds it once its unfinished output is there.
+    fn held(folder: &Folder, words: &[&str]) -> Child {
+        let child = tool(folder.path())
+            .args(words)
+            .stdout(Stdio::piped())
+            .stderr(Stdio::piped())
+            .spawn()
+            .expect("the tool starts");
+        let begun = Instant::now();
+        while !names(folder.path())
+            .iter()
+            .any(|name| name.ends_with(".part"))
+        {
+            assert!(begun.elapsed() < Duration::from_secs(60), "no output begun");
+            sleep(Duration::from_micros(200));
+        }
+        signal(&child, libc::SIGSTOP);
+        child
+    }
+
+    fn signal(child: &Child, signal: libc::c_int) {
+        // SAFETY: the child is ours and was not waited for yet.
+        unsafe { libc::kill(child.id() as libc::pid_t, signal) };
+    }
+
+    fn ran(child: Child) -> Ran {
+        Ran::of(child.wait_with_output().expect("it ends"))
+    }
+
+    #[test]
+    fn normal_of_a_file_that_is_cut() {
+        let folder = Folder::new();
+        let image = Image::full(&folder.at("disk"), BIG);
+        let child = held(&folder, &["--json", "normal", "disk", "-o", "out"]);
+        image.length(0);
+        signal(&child, libc::SIGCONT);
+        let ran = ran(child);
+        ran.ill("disk: the file was cut while it was read");
+        assert!(ran
+            .text()
+            .starts_with("{\"failed\":\"disk: the file was cut"));
+        assert_eq!(folder.names(), ["disk"]);
+    }
+
+    #[test]
+    fn collapse_onto_a_file_that_is_cut() {
+        let folder = Folder::new();
+        let image = Image::full(&folder.at("disk"), BIG);
+        Image::new(&folder.at("delta"), BIG);
+        let child = held(&folder, &["collapse", "disk", "delta", "-o", "out"]);
+        image.length(4096);
+        signal(&child, libc::SIGCONT);
+        ran(child).ill("disk: the file was cut while it was read");
+        assert_eq!(folder.names(), ["delta", "disk"]);
+    }
+
+    #[test]
+    fn a_file_that_changes_a_little() {
+        let folder = Folder::new();
+        let image = Image::full(&folder.at("disk"), BIG);
+        let child = held(&folder, &["normal", "disk", "-o", "out"]);
+        image.put(512 * image.start, b"x");
+        signal(&child, libc::SIGCONT);
+        ran(child).ill("disk: the file changed while it was read");
+        assert_eq!(folder.names(), ["disk"]);
+    }
+
+    #[test]
+    fn stopped_by_a_signal() {
+        for stop in [libc::SIGTERM, libc::SIGINT, libc::SIGHUP] {
+            let folder = Folder::new();
+            Image::full(&folder.at("disk"), BIG);
+            let child = held(&folder, &["normal", "disk", "-o", "out"]);
+            signal(&child, stop);
+            signal(&child, libc::SIGCONT);
+            assert_eq!(ran(child).status, None);
+            assert_eq!(folder.names(), ["disk"]);
+        }
+    }
+
+    #[test]
+    fn an_output_that_somebody_else_makes_meanwhile() {
+        let folder = Folder::new();
+        Image::full(&folder.at("disk"), CAPACITY);
+        let child = held(&folder, &["normal", "disk", "-o", "out"]);
+        std::fs::write(folder.at("out"), "theirs").expect("written");
+        signal(&child, libc::SIGCONT);
+        ran(child).ill("out: was made by somebody else meanwhile");
+        assert_eq!(
+            std::fs::read(folder.at("out")).expect("the file"),
+            b"theirs"
+        );
+        assert_eq!(folder.names(), ["disk", "out"]);
+    }
+}

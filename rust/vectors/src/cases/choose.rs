@@ -1,0 +1,143 @@
+//! Which cases are stored: real images from samples, and generated ones that reach each answer of each call.
+
+use super::record::Recorder;
+use super::{Case, IMAGE, TEXT};
+use compare::cases::case;
+use compare::rng::Rng;
+use compare::run::Run;
+use compare::side::Plain;
+use compare::tally::Call;
+use std::collections::BTreeMap;
+use std::io;
+use std::path::{Path, PathBuf};
+
+const SEED: u64 = 20;
+/// How many of the generators' cases are tried.
+const TRIED: u64 = 20_000;
+/// The program's limits.
+const MOST_LAYERS: usize = 17;
+const MOST_ROOM: u64 = 65_536;
+
+/// Samples small enough to be stored a second time.
+const SAMPLES: [&str; 3] = ["cowd-s001", "vmdkstream", "stream-optimized-data"];
+
+const CALLS: [Call; 9] = [
+    Call::Check,
+    Call::Header,
+    Call::Lookup,
+    Call::Chain,
+    Call::Read,
+    Call::Normal,
+    Call::Collapse,
+    Call::Descriptor,
+    Call::Find,
+];
+
+/// The program's input.
+pub fn input(root: &Path) -> io::Result<Vec<u8>> {
+    let mut bytes = Vec::new();
+    for name in SAMPLES {
+        let image = std::fs::read(root.join(format!("samples/{name}.vmdk")))?;
+        bytes.extend(sample(image).to_bytes());
+    }
+    for case in generated() {
+        bytes.extend(case.to_bytes());
+    }
+    Ok(bytes)
+}
+
+/// A sample, with both ends of each grain asked for.
+fn sample(image: Vec<u8>) -> Case {
+    let head = plain::header(&image);
+    let mut sectors: Vec<u64> = Vec::new();
+    let mut first = 0;
+    while first < head.capacity {
+        sectors.extend([first, (first + head.grain_size).min(head.capacity) - 1]);
+        first += head.grain_size;
+    }
+    sectors.push(head.capacity);
+    Case {
+        asked: IMAGE,
+        sectors,
+        bytes: image,
+        room: MOST_ROOM,
+        ..Case::default()
+    }
+}
+
+/// Generated cases, as long as they give an answer that was not given often enough yet.
+fn generated() -> Vec<Case> {
+    let mut reached: BTreeMap<String, u64> = BTreeMap::new();
+    let mut chosen = Vec::new();
+    for case in candidates() {
+        let lines = case.lines();
+        let answers: Vec<String> = lines.iter().map(|line| kind(&case, line)).collect();
+        let seldom = |answer: &String| {
+            reached
+                .get(answer)
+                .map_or(true, |times| *times < wanted(&case, answer))
+        };
+        if answers.iter().any(seldom) {
+            for answer in answers {
+                *reached.entry(answer).or_default() += 1;
+            }
+            chosen.push(case);
+        }
+    }
+    chosen
+}
+
+/// How often a kind of answer is stored.
+fn wanted(case: &Case, answer: &str) -> u64 {
+    let refused = !answer.contains(" 0 ");
+    match (is_short(case), refused) {
+        (true, _) => 15,
+        (false, true) => 2,
+        (false, false) => 3,
+    }
+}
+
+/// What the generators ask, small images first.
+fn candidates() -> Vec<Case> {
+    let recorder = Recorder::default();
+    let mut run = Run::new([&recorder, &Plain], CALLS.to_vec(), PathBuf::new());
+    let mut candidates = Vec::new();
+    for number in 0..TRIED {
+        case(&mut run, &mut Rng::new(SEED, number), number);
+        candidates.extend(recorder.take().into_iter().filter(fits));
+    }
+    // Of texts the short ones are too plain to be preferred.
+    candidates.sort_by_key(|case| if is_short(case) { 0 } else { case.bytes.len() });
+    candidates
+}
+
+/// Texts and lists are short, images are not: a COWD table alone takes 16 KB.
+fn is_short(case: &Case) -> bool {
+    case.asked >= TEXT
+}
+
+/// Whether a case is one for the program, and small enough to be stored.
+fn fits(case: &Case) -> bool {
+    let most = if is_short(case) { 4 << 10 } else { 20 << 10 };
+    case.bytes.len() <= most && case.lengths.len() <= MOST_LAYERS && case.room <= MOST_ROOM
+}
+
+/// What kind of answer a line is: its call, its number and what else tells it from others.
+fn kind(case: &Case, line: &str) -> String {
+    let words: Vec<&str> = line.split(' ').collect();
+    let [call, number] = [words[0], words[1]];
+    let cowd = case.bytes.starts_with(b"COWD");
+    match call {
+        "record" => call.to_string(),
+        "read" => format!("{call} {} {cowd}", number == "0"),
+        "lookup" => format!("{call} {number} {} {cowd}", words[4]),
+        "chain" => format!("{call} {number} {}", words[4]),
+        "normal" | "collapse" if number == "0" => {
+            // By its length too, since the shortest results have no grain.
+            let length: u64 = words[3].parse().unwrap_or(0);
+            format!("{call} {number} {} {}", length == case.room, length / 8192)
+        }
+        "normal" | "collapse" | "descriptor" | "find" => format!("{call} {number}"),
+        _ => format!("{call} {number} {cowd}"),
+    }
+}

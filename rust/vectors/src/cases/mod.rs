@@ -1,0 +1,72 @@
+//! The input of the program `cases`, and what it prints.
+//!
+//! A case is five numbers, what is asked and the numbers of sectors, lengths, bytes and room; then the sectors, the lengths
+//! and the bytes.
+
+mod answer;
+mod choose;
+mod record;
+
+use crate::input::Input;
+pub use choose::input;
+
+/// The check, the header, the lookup and the grain reader for each sector, and the normal form.
+const IMAGE: u64 = 0;
+/// The chain lookup for each sector.
+const CHAIN: u64 = 1;
+/// The collapse of two images, the lower one as long as the length says.
+const COLLAPSE: u64 = 2;
+/// The extents of a text, in a list of four records.
+const TEXT: u64 = 3;
+/// The search for each sector in a list of `SEARCHED` records, which the bytes hold.
+const FIND: u64 = 4;
+
+const SEARCHED: usize = 32;
+
+#[derive(Clone, Debug, Default, PartialEq, Eq)]
+pub struct Case {
+    asked: u64,
+    sectors: Vec<u64>,
+    lengths: Vec<u64>,
+    bytes: Vec<u8>,
+    /// How long a lent output is.
+    room: u64,
+}
+
+impl Case {
+    fn to_bytes(&self) -> Vec<u8> {
+        let counts = [self.sectors.len(), self.lengths.len(), self.bytes.len()];
+        let mut numbers = vec![self.asked];
+        numbers.extend(counts.map(|count| count as u64));
+        numbers.push(self.room);
+        numbers.extend(&self.sectors);
+        numbers.extend(&self.lengths);
+        let mut bytes: Vec<u8> = numbers.iter().flat_map(|n| n.to_le_bytes()).collect();
+        bytes.extend(&self.bytes);
+        bytes
+    }
+
+    fn read(input: &mut Input) -> Case {
+        let [asked, sectors, lengths, bytes, room] = [(); 5].map(|()| input.number());
+        Case {
+            asked,
+            sectors: input.numbers(sectors),
+            lengths: input.numbers(lengths),
+            bytes: input.bytes(bytes).to_vec(),
+            room,
+        }
+    }
+}
+
+/// What the program prints.
+pub fn output(input: &[u8]) -> String {
+    let mut input = Input::new(input);
+    let mut out = String::new();
+    while !input.is_empty() {
+        for line in Case::read(&mut input).lines() {
+            out += &line;
+            out += "\n";
+        }
+    }
+    out
+}

@@ -1,0 +1,121 @@
+//! The generators of `compare`, listened to: a side that keeps what it is asked and answers as the plain one does.
+
+use super::{Case, CHAIN, COLLAPSE, FIND, IMAGE, SEARCHED, TEXT};
+use crate::numbers::extent;
+use compare::side::{Plain, Side};
+use plain::{Described, Extent, Found, Head, Located, Part, Verdict, Written};
+use std::cell::RefCell;
+
+#[derive(Default)]
+pub struct Recorder {
+    cases: RefCell<Vec<Case>>,
+}
+
+impl Recorder {
+    /// What was asked since the last time.
+    pub fn take(&self) -> Vec<Case> {
+        self.cases.take()
+    }
+
+    /// Keeps a question; one about the same bytes as the last one is added to it.
+    fn keep(&self, case: Case) {
+        let mut cases = self.cases.borrow_mut();
+        match cases.last_mut().filter(|last| joins(last, &case)) {
+            None => cases.push(case),
+            Some(last) => {
+                last.room = last.room.max(case.room);
+                for sector in case.sectors {
+                    if !last.sectors.contains(&sector) {
+                        last.sectors.push(sector);
+                    }
+                }
+            }
+        }
+    }
+
+    fn image(&self, image: &[u8], sectors: &[u64]) {
+        self.keep(Case {
+            asked: IMAGE,
+            sectors: sectors.to_vec(),
+            bytes: image.to_vec(),
+            ..Case::default()
+        });
+    }
+}
+
+/// Whether two questions are about the same bytes. Of an image's questions only the normal form's has a room.
+fn joins(last: &Case, case: &Case) -> bool {
+    let same = (last.asked, &last.lengths, &last.bytes) == (case.asked, &case.lengths, &case.bytes);
+    same && (last.asked == IMAGE || last.room == case.room)
+}
+
+impl Side for Recorder {
+    fn check(&self, image: &[u8]) -> Verdict {
+        self.image(image, &[]);
+        Plain.check(image)
+    }
+    fn header(&self, image: &[u8]) -> Head {
+        self.image(image, &[]);
+        Plain.header(image)
+    }
+    fn lookup(&self, image: &[u8], sector: u64) -> Located {
+        self.image(image, &[sector]);
+        Plain.lookup(image, sector)
+    }
+    fn chain(&self, layers: &[u8], lengths: &[u64], sector: u64) -> Located {
+        self.keep(Case {
+            asked: CHAIN,
+            sectors: vec![sector],
+            lengths: lengths.to_vec(),
+            bytes: layers.to_vec(),
+            room: 0,
+        });
+        Plain.chain(layers, lengths, sector)
+    }
+    fn read(&self, image: &[u8], sector: u64) -> Part {
+        self.image(image, &[sector]);
+        Plain.read(image, sector)
+    }
+    fn normal(&self, image: &[u8], out: &mut [u8]) -> Written {
+        self.keep(Case {
+            asked: IMAGE,
+            bytes: image.to_vec(),
+            room: out.len() as u64,
+            ..Case::default()
+        });
+        Plain.normal(image, out)
+    }
+    fn collapse(&self, lower: &[u8], upper: &[u8], out: &mut [u8]) -> Written {
+        self.keep(Case {
+            asked: COLLAPSE,
+            lengths: vec![lower.len() as u64],
+            bytes: [lower, upper].concat(),
+            room: out.len() as u64,
+            ..Case::default()
+        });
+        Plain.collapse(lower, upper, out)
+    }
+    fn describe(&self, text: &[u8], list: &mut [Extent]) -> Described {
+        self.keep(Case {
+            asked: TEXT,
+            bytes: text.to_vec(),
+            ..Case::default()
+        });
+        Plain.describe(text, list)
+    }
+    fn find(&self, list: &[Extent], sector: u64) -> Found {
+        // The program's list has one length: records of no sectors fill it, and longer lists are left out.
+        let mut records = list.to_vec();
+        if records.len() <= SEARCHED {
+            records.resize(SEARCHED, Extent::default());
+            let numbers = records.iter().flat_map(extent);
+            self.keep(Case {
+                asked: FIND,
+                sectors: vec![sector],
+                bytes: numbers.flat_map(u64::to_le_bytes).collect(),
+                ..Case::default()
+            });
+        }
+        Plain.find(list, sector)
+    }
+}

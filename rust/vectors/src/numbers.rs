@@ -1,0 +1,67 @@
+//! Answers as the programs print them: numbers, with a space after each.
+
+use plain::{Described, Extent, Found, Located};
+use std::fmt::Write;
+
+/// A line's beginning and its numbers.
+pub fn line(start: &str, numbers: &[u64]) -> String {
+    let mut line = start.to_string();
+    for number in numbers {
+        let _ = write!(line, "{number} ");
+    }
+    line
+}
+
+pub fn located(a: Located) -> [u64; 7] {
+    [
+        a.number, a.layer, a.place, a.kind, a.sector, a.size, a.offset,
+    ]
+}
+
+pub fn described(d: Described) -> [u64; 8] {
+    [
+        d.number,
+        d.place,
+        d.extents,
+        d.version,
+        d.cid,
+        d.parent_cid,
+        d.type_at,
+        d.type_length,
+    ]
+}
+
+pub fn extent(e: &Extent) -> [u64; 7] {
+    [
+        e.first,
+        e.sectors,
+        e.access,
+        e.kind,
+        e.name_at,
+        e.name_length,
+        e.offset,
+    ]
+}
+
+pub fn found(f: Found) -> [u64; 3] {
+    [f.number, f.place, f.extent]
+}
+
+/// The list of four that a text's extents are handed over in, as it is before: each number is 9.
+const HELD: [Extent; 4] = [Extent {
+    first: 9,
+    sectors: 9,
+    access: 9,
+    kind: 9,
+    name_at: 9,
+    name_length: 9,
+    offset: 9,
+}; 4];
+
+/// A text's answer, and the list of four after it.
+pub fn handed_over(text: &[u8]) -> (Described, [Extent; 4]) {
+    let mut list = HELD;
+    let (described, extents) = plain::describe(text, list.len());
+    list[..extents.len()].copy_from_slice(&extents);
+    (described, list)
+}

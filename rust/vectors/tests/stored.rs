@@ -1,0 +1,53 @@
+//! What is stored beside the program crates is what the plain implementation says.
+
+use vectors::stored::{all, differing, root};
+
+#[test]
+fn stored_files() {
+    let root = root();
+    let files = all(&root).unwrap();
+    let differing: Vec<&str> = differing(&root, &files)
+        .iter()
+        .map(|file| &file.path[..])
+        .collect();
+    assert!(
+        differing.is_empty(),
+        "`vectors --write` would change {differing:?}"
+    );
+}
+
+/// The input of `cases` stays small enough to be stored.
+#[test]
+fn small_input() {
+    let input = vectors::cases::input(&root()).unwrap();
+    assert!(input.len() <= 1_500_000, "{} bytes", input.len());
+}
+
+/// The stored cases reach each refusal that a call can give. 36 needs a longer text: the program `texts` has it.
+#[test]
+fn every_refusal() {
+    let output = vectors::cases::output(&vectors::cases::input(&root()).unwrap());
+    let check: Vec<u64> = (0..=12).collect();
+    let wanted = [
+        ("check", check.clone()),
+        ("header", (0..=7).collect()),
+        ("lookup", (0..=10).chain([20]).collect()),
+        ("chain", (0..=10).chain([20, 22, 24]).collect()),
+        ("normal", check.iter().copied().chain([21, 23]).collect()),
+        (
+            "collapse",
+            check.iter().copied().chain([21, 22, 23]).collect(),
+        ),
+        ("descriptor", [0, 21].into_iter().chain(30..=35).collect()),
+        ("find", vec![0, 20]),
+    ];
+    for (call, numbers) in wanted {
+        for number in numbers {
+            let start = format!("{call} {number} ");
+            assert!(
+                output.lines().any(|line| line.starts_with(&start)),
+                "no {start}"
+            );
+        }
+    }
+}

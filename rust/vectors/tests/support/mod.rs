@@ -1,0 +1,7 @@
+//! What the test of the samples needs and the library does not have.
+
+pub mod disk;
+pub mod inflate;
+pub mod map;
+pub mod raw;
+pub mod sha256;
