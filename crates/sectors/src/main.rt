@@ -4,32 +4,15 @@
 ghost use mathlib.Core.Path.{_≡_};
 ghost use Prim.Native.Nat.{_+_, _≤_};
 ghost use lib.ListN.{length};
-use format::Located;
 use libc::STDIN_FILENO;
 use libc::STDOUT_FILENO;
 
-fn put(n: u64) {
-    io::print_decimal(STDOUT_FILENO, n);
-    io::write_all(STDOUT_FILENO, b" ");
-}
-
-// Number, layer, place, kind, sector, size, offset.
-fn put_located(a: Located) {
-    put(a.number);
-    put(a.layer);
-    put(a.place);
-    put(a.kind);
-    put(a.sector);
-    put(a.size);
-    put(a.offset);
-}
-
 // The lookup's answer, and how many bytes the grain reader hands back.
 fn look(image: &[u8], sector: u64) {
-    put_located(answers::located_of(lookup::lookup(image, sector)));
+    programs::put_located(answers::located_of(lookup::lookup(image, sector)));
     let part = lookup::read(image, sector);
     io::print_decimal(STDOUT_FILENO, part.len() as u64);
-    io::write_all(STDOUT_FILENO, b"\n");
+    programs::end_line();
 }
 
 fn look_all(image: &[u8], sectors: &[u8]) {
@@ -46,32 +29,17 @@ fn chain_all(layers: &[u8], lengths: &[u64], sectors: &[u8]) {
     let mut i = 0;
     while i < n {
         let sector = base::u64_at(sectors, 8 * i);
-        put_located(answers::chained_of(chain::chain(layers, lengths, sector)));
-        io::write_all(STDOUT_FILENO, b"\n");
+        programs::put_located(answers::chained_of(chain::chain(layers, lengths, sector)));
+        programs::end_line();
         i += 1;
     }
-}
-
-// The lengths as numbers. The `ensures` gives the array's length, which lending it needs.
-fn numbers_of(lengths: &[u8]) -> [u64; 17]
-    requires { ⌜ length (now lengths) ≤ 136 ⌝ }
-    ensures { λ r. ⌜ 17 ≡ length r ⌝ }
-{
-    let mut numbers = [0u64; 17];
-    let n = lengths.len() / 8;
-    let mut i = 0;
-    while i < n {
-        numbers[i] = base::u64_at(lengths, 8 * i);
-        i += 1;
-    }
-    numbers
 }
 
 // A chain of at most 17 layers, which is one too many.
 fn chains(layers: &[u8], lengths: &[u8], sectors: &[u8])
     requires { ⌜ length (now lengths) ≤ 136 ⌝ }
 {
-    let numbers = numbers_of(lengths);
+    let numbers = programs::numbers_of(lengths);
     let n = lengths.len() / 8;
     let all: &[u64] = &numbers;
     chain_all(layers, &all[..n], sectors);

@@ -4,71 +4,19 @@
 // u64 each; then the bytes.
 ghost use Prim.Native.Nat.{_≤_};
 ghost use lib.ListN.{length};
-use descriptor::Described;
 use descriptor::Extent;
-use descriptor::Found;
 use descriptor::Parsed;
 use libc::STDIN_FILENO;
-use libc::STDOUT_FILENO;
-
-mod lent;
-
-fn put(n: u64) {
-    io::print_decimal(STDOUT_FILENO, n);
-    io::write_all(STDOUT_FILENO, b" ");
-}
-
-fn end_line() {
-    io::write_all(STDOUT_FILENO, b"\n");
-}
-
-fn put_described(a: Described) {
-    put(a.number);
-    put(a.place);
-    put(a.extents);
-    put(a.version);
-    put(a.cid);
-    put(a.parent_cid);
-    put(a.type_at);
-    put(a.type_length);
-    end_line();
-}
 
 fn put_extent(e: Extent) {
-    put(e.first);
-    put(e.sectors);
-    put(e.access);
-    put(e.kind);
-    put(e.name_at);
-    put(e.name_length);
-    put(e.offset);
-    end_line();
-}
-
-fn put_found(f: Found) {
-    put(f.number);
-    put(f.place);
-    put(f.extent);
-    end_line();
-}
-
-// The four records that are lent: what they held shows which of them were not stored to.
-fn held() -> [Extent; 4] {
-    let e = Extent {
-        first: 9,
-        sectors: 9,
-        access: 9,
-        kind: 9,
-        name_at: 9,
-        name_length: 9,
-        offset: 9,
-    };
-    [e; 4]
+    programs::put_extent(e);
+    programs::end_line();
 }
 
 fn describe(text: &[u8]) {
-    let lent = lent::described(text, held());
-    put_described(lent.answer);
+    let lent = lent::described(text, [programs::held(); 4]);
+    programs::put_described(lent.answer);
+    programs::end_line();
     put_extent(lent.list[0]);
     put_extent(lent.list[1]);
     put_extent(lent.list[2]);
@@ -86,12 +34,17 @@ fn put_records(p: Parsed) {
     }
 }
 
+fn find(records: [Extent; 32], sector: u64) {
+    programs::put_found(lent::found(records, sector));
+    programs::end_line();
+}
+
 // Records past the last have no sectors: a search through all 32 finds what one through the stored ones would.
 fn find_all(records: [Extent; 32], sectors: &[u8]) {
     let n = sectors.len() / 8;
     let mut i = 0;
     while i < n {
-        put_found(lent::found(records, base::u64_at(sectors, 8 * i)));
+        find(records, base::u64_at(sectors, 8 * i));
         i += 1;
     }
 }

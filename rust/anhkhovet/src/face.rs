@@ -58,7 +58,6 @@ extern "C" {
     pub fn anhkhovet_read(image: *const u8, length: usize, sector: u64) -> Part;
 }
 
-#[cfg(feature = "writing")]
 extern "C" {
     pub fn anhkhovet_normal(
         image: *const u8,
@@ -76,7 +75,6 @@ extern "C" {
     ) -> Written;
 }
 
-#[cfg(feature = "descriptor")]
 extern "C" {
     pub fn anhkhovet_descriptor(
         text: *const u8,

@@ -53,14 +53,12 @@ pub fn read(image: &[u8], sector: u64) -> &[u8] {
 }
 
 /// Writes the normal form of an image over the start of `out`.
-#[cfg(feature = "writing")]
 pub fn normal(image: &[u8], out: &mut [u8]) -> Written {
     // SAFETY: see the top of the file.
     unsafe { face::anhkhovet_normal(image.as_ptr(), image.len(), out.as_mut_ptr(), out.len()) }
 }
 
 /// Writes the collapse of two images over the start of `out`.
-#[cfg(feature = "writing")]
 pub fn collapse(lower: &[u8], upper: &[u8], out: &mut [u8]) -> Written {
     // SAFETY: see the top of the file.
     unsafe {
@@ -76,7 +74,6 @@ pub fn collapse(lower: &[u8], upper: &[u8], out: &mut [u8]) -> Written {
 }
 
 /// Reads a descriptor and stores its extents at the start of the lent list.
-#[cfg(feature = "descriptor")]
 pub fn descriptor(text: &[u8], extents: &mut [Extent]) -> Described {
     // SAFETY: see the top of the file.
     unsafe {
@@ -90,7 +87,6 @@ pub fn descriptor(text: &[u8], extents: &mut [Extent]) -> Described {
 }
 
 /// The first record of the list that holds `sector`.
-#[cfg(feature = "descriptor")]
 pub fn find(extents: &[Extent], sector: u64) -> Found {
     // SAFETY: see the top of the file.
     unsafe { face::anhkhovet_find(extents.as_ptr(), extents.len(), sector) }

@@ -68,7 +68,6 @@ fn empty_slices() {
     assert!(read(&[], 0).is_empty());
 }
 
-#[cfg(feature = "writing")]
 #[test]
 fn writing() {
     let image = image();
@@ -82,7 +81,6 @@ fn writing() {
     assert_eq!(anhkhovet::normal(&image, &mut []).number, 21);
 }
 
-#[cfg(feature = "descriptor")]
 #[test]
 fn descriptor() {
     use anhkhovet::{find, Extent};

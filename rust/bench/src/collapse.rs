@@ -86,23 +86,18 @@ fn in_memory(
     let mut out = vec![1; lower.len()];
     let expected = plain::collapse(lower, upper, out.len()).map_err(|r| format!("{r:?}"))?;
     let length = expected.len();
-    let there = side::collapse(lower, upper, &mut out);
-    if let Some(written) = there {
-        agree(
-            "collapse",
-            &(written.number, written.length),
-            &(0, length as u64),
-        )?;
-        agree("collapse", &(out[..length] == expected), &true)?;
-    }
+    let written = side::collapse(lower, upper, &mut out);
+    agree(
+        "collapse",
+        &(written.number, written.length),
+        &(0, length as u64),
+    )?;
+    agree("collapse", &(out[..length] == expected), &true)?;
     drop(expected);
 
-    let ours = there.map(|_| best(setup.rounds, || side::collapse(lower, upper, &mut out)));
-    let timed: Timed = ours
-        .map(Figure::whole)
-        .ok_or_else(|| side::MISSING.to_string());
+    let ours = best(setup.rounds, || side::collapse(lower, upper, &mut out));
     let label = format!("two layers, {mib} MiB result, half of it from each, in memory");
-    report.measure("collapse", &label, &timed);
+    report.measure("collapse", &label, &Ok(Figure::whole(ours)));
     let time = best(setup.rounds, || {
         out[..length].copy_from_slice(&lower[..length]);
         keep(&out.as_ptr());
@@ -126,16 +121,10 @@ fn in_memory(
 
     let checks =
         best(setup.rounds, || side::check(lower)) + best(setup.rounds, || side::check(upper));
-    let share = match ours {
-        Some(ours) => format!(
-            "{} % of its time",
-            short(100.0 * checks.as_secs_f64() / ours.as_secs_f64())
-        ),
-        None => "share not known".to_string(),
-    };
     report.note(format!(
-        "Collapse, {mib} MiB: its two checks take {} alone, {share}.",
-        Figure::whole(checks)
+        "Collapse, {mib} MiB: its two checks take {} alone, {} % of its time.",
+        Figure::whole(checks),
+        short(100.0 * checks.as_secs_f64() / ours.as_secs_f64())
     ));
     Ok(length)
 }
@@ -171,16 +160,11 @@ fn in_files(
         let lower = Map::new(&File::open(&lower)?)?;
         let upper = Map::new(&File::open(&upper)?)?;
         let mut out = MapMut::new(&folder.create("out.vmdk", length as u64)?)?;
-        let written = side::collapse(&lower, &upper, &mut out);
+        keep(&side::collapse(&lower, &upper, &mut out));
         drop((lower, upper, out));
-        Ok((start.elapsed(), written))
+        Ok(start.elapsed())
     };
-    let timed: Timed = match ours()?.1 {
-        Some(_) => Ok(Figure::whole(least(setup.rounds, || {
-            ours().map(|(time, _)| time)
-        })?)),
-        None => Err(side::MISSING.to_string()),
-    };
+    let timed: Timed = Ok(Figure::whole(least(setup.rounds, ours)?));
     let label = format!("the same, {mib} MiB, mapped files to a new mapped file, on {place}");
     report.measure("collapse", &label, &timed);
     let [convert, to, format] = ["convert", "-O", "vmdk"].map(OsStr::new);

@@ -1,6 +1,6 @@
 //! The descriptor reader on texts of the greatest length.
 
-use crate::report::{grouped, Figure, Report, Timed};
+use crate::report::{grouped, Figure, Report};
 use crate::timing::{best, opaque};
 use crate::{agree, side, Outcome, Setup};
 use plain::{MOST_EXTENTS, MOST_TEXT};
@@ -78,16 +78,11 @@ pub fn measure(setup: &Setup, report: &mut Report) -> Outcome {
         let text = text.as_bytes();
         let expected = plain::describe(text, MOST_EXTENTS);
         agree("descriptor", &expected.0.number, &number)?;
-        let there = side::describe(text);
-        if let Some(described) = &there {
-            agree("descriptor", described, &expected)?;
-        }
+        agree("descriptor", &side::describe(text), &expected)?;
         let each = |time| Figure::each(time, MOST_TEXT as u64, " a byte");
-        let ours: Timed = there
-            .map(|_| each(best(rounds, || side::describe(text))))
-            .ok_or_else(|| side::MISSING.to_string());
+        let ours = best(rounds, || side::describe(text));
         let label = format!("{} bytes, {label}", grouped(MOST_TEXT as u64));
-        report.measure("descriptor", &label, &ours);
+        report.measure("descriptor", &label, &Ok(each(ours)));
         let plain = best(rounds, || plain::describe(text, MOST_EXTENTS));
         report.against("plain", &Ok(each(plain)));
         let pass = best(rounds, || sum(text));

@@ -24,32 +24,18 @@ mod proved {
         same!(anhkhovet::chain(layers, lengths, sector) => Located { number, layer, place, kind, sector, size, offset })
     }
 
-    #[cfg(feature = "writing")]
-    pub fn collapse(lower: &[u8], upper: &[u8], out: &mut [u8]) -> Option<Written> {
-        Some(same!(anhkhovet::collapse(lower, upper, out) => Written { number, place, length }))
+    pub fn collapse(lower: &[u8], upper: &[u8], out: &mut [u8]) -> Written {
+        same!(anhkhovet::collapse(lower, upper, out) => Written { number, place, length })
     }
 
-    #[cfg(feature = "descriptor")]
-    pub fn describe(text: &[u8]) -> Option<(Described, Vec<Extent>)> {
+    pub fn describe(text: &[u8]) -> (Described, Vec<Extent>) {
         let mut records = [anhkhovet::Extent::default(); plain::MOST_EXTENTS];
         let described = anhkhovet::descriptor(text, &mut records);
         let described = same!(described => Described { number, place, extents, version, cid, parent_cid, type_at, type_length });
         // The plain side hands over a list too: both pay for it.
         let used = &records[..described.extents as usize];
         let extents = used.iter().map(|from| same!(from => Extent { first, sectors, access, kind, name_at, name_length, offset }));
-        Some((described, extents.collect()))
-    }
-
-    /// Not in the archive yet.
-    #[cfg(not(feature = "writing"))]
-    pub fn collapse(_: &[u8], _: &[u8], _: &mut [u8]) -> Option<Written> {
-        None
-    }
-
-    /// Not in the archive yet.
-    #[cfg(not(feature = "descriptor"))]
-    pub fn describe(_: &[u8]) -> Option<(Described, Vec<Extent>)> {
-        None
+        (described, extents.collect())
     }
 }
 
@@ -60,12 +46,12 @@ pub use proved::{chain, check, collapse, describe, lookup};
 mod stand_in {
     use plain::{Described, Extent, Written};
 
-    pub fn collapse(lower: &[u8], upper: &[u8], out: &mut [u8]) -> Option<Written> {
-        Some(plain::over(plain::collapse(lower, upper, out.len()), out))
+    pub fn collapse(lower: &[u8], upper: &[u8], out: &mut [u8]) -> Written {
+        plain::over(plain::collapse(lower, upper, out.len()), out)
     }
 
-    pub fn describe(text: &[u8]) -> Option<(Described, Vec<Extent>)> {
-        Some(plain::describe(text, plain::MOST_EXTENTS))
+    pub fn describe(text: &[u8]) -> (Described, Vec<Extent>) {
+        plain::describe(text, plain::MOST_EXTENTS)
     }
 }
 
@@ -74,6 +60,3 @@ pub use {
     plain::{chain, check, lookup},
     stand_in::{collapse, describe},
 };
-
-/// What stands in the table where the archive does not have a call.
-pub const MISSING: &str = "not in the archive";

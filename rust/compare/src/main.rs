@@ -10,19 +10,17 @@ use std::process::exit;
 
 fn main() {
     let [count, seed, first] = numbers("compare", 100_000);
-    let mut calls = vec![
+    let calls = vec![
         Call::Check,
         Call::Header,
         Call::Lookup,
         Call::Chain,
         Call::Read,
+        Call::Normal,
+        Call::Collapse,
+        Call::Descriptor,
+        Call::Find,
     ];
-    if cfg!(feature = "writing") {
-        calls.extend([Call::Normal, Call::Collapse]);
-    }
-    if cfg!(feature = "descriptor") {
-        calls.extend([Call::Descriptor, Call::Find]);
-    }
     let folder = std::env::temp_dir().join("anhkhovet-differences");
     let mut run = Run::new([tested(), &Plain], calls, folder);
     run_cases(&mut run, seed, first, count);

@@ -52,7 +52,6 @@ impl Side for Plain {
 #[cfg(feature = "proved")]
 mod proved {
     use super::*;
-    #[cfg(feature = "descriptor")]
     use anhkhovet::Extent as Record;
 
     /// The proved library, through its C face.
@@ -82,15 +81,12 @@ mod proved {
         fn read(&self, image: &[u8], sector: u64) -> Part {
             same!(anhkhovet::read_part(image, sector) => Part { at, length })
         }
-        #[cfg(feature = "writing")]
         fn normal(&self, image: &[u8], out: &mut [u8]) -> Written {
             same!(anhkhovet::normal(image, out) => Written { number, place, length })
         }
-        #[cfg(feature = "writing")]
         fn collapse(&self, lower: &[u8], upper: &[u8], out: &mut [u8]) -> Written {
             same!(anhkhovet::collapse(lower, upper, out) => Written { number, place, length })
         }
-        #[cfg(feature = "descriptor")]
         fn describe(&self, text: &[u8], list: &mut [Extent]) -> Described {
             let mut records: Vec<Record> = list.iter().map(record).collect();
             let described = anhkhovet::descriptor(text, &mut records);
@@ -99,31 +95,12 @@ mod proved {
             }
             same!(described => Described { number, place, extents, version, cid, parent_cid, type_at, type_length })
         }
-        #[cfg(feature = "descriptor")]
         fn find(&self, list: &[Extent], sector: u64) -> Found {
             let records: Vec<Record> = list.iter().map(record).collect();
             same!(anhkhovet::find(&records, sector) => Found { number, place, extent })
         }
-        // Calls that the archive does not have yet: `run` never asks for them.
-        #[cfg(not(feature = "writing"))]
-        fn normal(&self, _: &[u8], _: &mut [u8]) -> Written {
-            unreachable!()
-        }
-        #[cfg(not(feature = "writing"))]
-        fn collapse(&self, _: &[u8], _: &[u8], _: &mut [u8]) -> Written {
-            unreachable!()
-        }
-        #[cfg(not(feature = "descriptor"))]
-        fn describe(&self, _: &[u8], _: &mut [Extent]) -> Described {
-            unreachable!()
-        }
-        #[cfg(not(feature = "descriptor"))]
-        fn find(&self, _: &[Extent], _: u64) -> Found {
-            unreachable!()
-        }
     }
 
-    #[cfg(feature = "descriptor")]
     fn record(extent: &Extent) -> Record {
         same!(extent => Record { first, sectors, access, kind, name_at, name_length, offset })
     }

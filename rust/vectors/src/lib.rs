@@ -6,6 +6,7 @@ pub mod cases;
 mod checks;
 mod input;
 mod numbers;
+mod pairings;
 mod sectors;
 pub mod stored;
 mod texts;

@@ -1,6 +1,6 @@
 //! The stored files, and what they must hold.
 
-use crate::{cases, checks, sectors, texts};
+use crate::{cases, checks, pairings, sectors, texts};
 use std::fs;
 use std::io;
 use std::path::{Path, PathBuf};
@@ -10,9 +10,6 @@ pub struct Stored {
     pub path: String,
     pub bytes: Vec<u8>,
 }
-
-/// A program crate whose input stands by itself, and what it prints for an input.
-type Program = (&'static str, fn(&[u8]) -> String);
 
 /// The repository's folder.
 pub fn root() -> PathBuf {
@@ -26,22 +23,48 @@ pub fn all(root: &Path) -> io::Result<Vec<Stored>> {
         let line = checks::line(&fs::read(root.join(&path))?);
         add(format!("{path}.line"), line.into_bytes());
     }
-    let programs: [Program; 3] = [
-        ("vmdk_check", checks::line),
-        ("sectors", sectors::output),
-        ("texts", texts::output),
-    ];
-    for (name, output) in programs {
-        let input = fs::read(root.join(format!("crates/{name}/stdin")))?;
-        add(format!("crates/{name}/stdout"), output(&input).into_bytes());
+    for name in programs(root)? {
+        let path = format!("crates/{name}/stdin");
+        let input = if name == "cases" {
+            cases::input(root)?
+        } else {
+            fs::read(root.join(&path))?
+        };
+        add(
+            format!("crates/{name}/stdout"),
+            output(&name, &input)?.into_bytes(),
+        );
+        add(path, input);
     }
-    let made = cases::input(root)?;
-    add(
-        "crates/cases/stdout".into(),
-        cases::output(&made).into_bytes(),
-    );
-    add("crates/cases/stdin".into(), made);
     Ok(files)
+}
+
+/// What a program prints for an input.
+fn output(program: &str, input: &[u8]) -> io::Result<String> {
+    match program {
+        "cases" => Ok(cases::output(input)),
+        "pairings" => Ok(pairings::output(input)),
+        "sectors" => Ok(sectors::output(input)),
+        "texts" => Ok(texts::output(input)),
+        "vmdk_check" => Ok(checks::line(input)),
+        _ => Err(io::Error::new(
+            io::ErrorKind::Other,
+            format!("nothing here says what crates/{program} prints"),
+        )),
+    }
+}
+
+/// The program crates: those with an input.
+fn programs(root: &Path) -> io::Result<Vec<String>> {
+    let mut names = Vec::new();
+    for entry in fs::read_dir(root.join("crates"))? {
+        let entry = entry?;
+        if entry.path().join("stdin").exists() {
+            names.push(entry.file_name().to_string_lossy().into_owned());
+        }
+    }
+    names.sort();
+    Ok(names)
 }
 
 /// The images that vmdk_check is run on: all of tests/checks, and the samples that are named so.

@@ -19,14 +19,14 @@ fn stored_files() {
 /// The input of `cases` stays small enough to be stored.
 #[test]
 fn small_input() {
-    let input = vectors::cases::input(&root()).unwrap();
+    let input = std::fs::read(root().join("crates/cases/stdin")).unwrap();
     assert!(input.len() <= 1_500_000, "{} bytes", input.len());
 }
 
 /// The stored cases reach each refusal that a call can give. 36 needs a longer text: the program `texts` has it.
 #[test]
 fn every_refusal() {
-    let output = vectors::cases::output(&vectors::cases::input(&root()).unwrap());
+    let output = std::fs::read_to_string(root().join("crates/cases/stdout")).unwrap();
     let check: Vec<u64> = (0..=12).collect();
     let wanted = [
         ("check", check.clone()),

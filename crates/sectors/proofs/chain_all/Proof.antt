@@ -5,10 +5,10 @@ use Rattle.sectors.proofs.chain_all.Statement.{statement}
 use Rattle.sectors.proofs.chain_all.Tie as tie
 
 abbrev Inv-loop : tie.InvT-loop
-Inv-loop layers lengths sectors n i₀ t7 i = (i ≤ n) × (8 * n ≤ length sectors)
+Inv-loop layers lengths sectors n i₀ i = (i ≤ n) × (8 * n ≤ length sectors)
 
 abbrev μ-loop : tie.MeasureT-loop
-μ-loop layers lengths sectors n i₀ t7 i = n - i
+μ-loop layers lengths sectors n i₀ i = n - i
 
 pub chain-all-spec : {M : Type 1} → statement M
 chain-all-spec =
@@ -22,8 +22,7 @@ chain-all-spec =
     (λ chain-requires κs. search needs)
     (λ chained-of-requires κs. search needs)
     (λ put-located-requires κs. search needs)
-    (λ slice-aggregate-write-all. search needs)
-    (λ write-all-requires κs. search needs)
+    (λ end-line-requires κs. search needs)
     (λ add-i. search needs)
     (λ loop-less. search needs)
     (λ loop-again. search needs)

@@ -2,8 +2,8 @@ use Prim.Native.Nat.{_≤_, _*_, _-_}
 use mathlib.Core.Path.{_≡_}
 use lib.ListN.{length}
 use borrow.Author.Needs.{needs}
-use Rattle.sectors.proofs.numbers_of.Statement.{statement}
-use Rattle.sectors.proofs.numbers_of.Tie as tie
+use Rattle.programs.proofs.numbers_of.Statement.{statement}
+use Rattle.programs.proofs.numbers_of.Tie as tie
 
 abbrev Inv-loop : tie.InvT-loop
 Inv-loop lengths numbers₀ n i₀ numbers i = (i ≤ n) × (8 * n ≤ length lengths) × (n ≤ 17) × (17 ≡ length numbers)

@@ -1,4 +1,4 @@
--- `texts::lent::described` meets its contract: a walk of its MIR, by hand. A copy of the array is lent as a `&mut [Extent]` for a lifetime
+-- `lent::described` meets its contract: a walk of its MIR, by hand. A copy of the array is lent as a `&mut [Extent]` for a lifetime
 -- that is made for the call, comes back at the list that `describe` says, and is handed back with the answer.
 use mathlib.Core.Path.{_≡_, refl, sym, ap, subst, _∙_}
 use Prim.Native.Nat.{ℕ}
@@ -54,14 +54,14 @@ use Rattle.records.proofs.describe as describe
 use Rattle.records.proofs.describe.Symbol as describe-def
 use Rattle.records.proofs.describe.Symbol.{name as #records·describe}
 use Rattle.records.proofs.describe.Met as describe-thm
-use Rattle.texts.specs.declared.lent.Lent.{Lent}
-use Rattle.texts.proofs.Arrays.{Records, array, spelt, array-in, array-out, as-field}
-use Rattle.texts.proofs.lent.Lent as L
-use Rattle.texts.proofs.lent.Lent.Laws as L′
-use Rattle.texts.proofs.lent.described.Key.{name as #texts·described}
-use Rattle.texts.proofs.lent.described as described
-use Rattle.texts.proofs.lent.described.Statement as stated
-use Rattle.texts.proofs.lent.described.Code as code
+use Rattle.lent.specs.declared.Lent.{Lent}
+use Rattle.lent.proofs.Arrays.{Records, array, spelt, array-in, array-out, as-field}
+use Rattle.lent.proofs.Lent as L
+use Rattle.lent.proofs.Lent.Laws as L′
+use Rattle.lent.proofs.described.Key.{name as #lent·described}
+use Rattle.lent.proofs.described as described
+use Rattle.lent.proofs.described.Statement as stated
+use Rattle.lent.proofs.described.Code as code
 
 abbrev stayed : Stays (described.ended .signature .params) (described.ended .kept)
 stayed = (stay-none-slice (0 ∷ []) tt (plain (λ _. u8)) yes, (stay-none (λ _. Records 4) yes, tt))
@@ -209,6 +209,6 @@ pub described-spec : {M : Type 1} → stated.statement M
 unfolding code.routine tablesOf
 described-spec 𝓤 H 𝓜 𝓖 𝓡 =
     entered 𝓤 H (tripleOf 𝓤 H (𝓖 .A) described.signature (described.spec 𝓤 H (𝓖 .A) (𝓜 .mem) (𝓡 .run)))
-    (tables 𝓤 H 𝓜 𝓡 code.env .C) (tables 𝓤 H 𝓜 𝓡 code.env .Λ) #texts·described code.function (code.unfolded 𝓤 H 𝓜 𝓡)
+    (tables 𝓤 H 𝓜 𝓡 code.env .C) (tables 𝓤 H 𝓜 𝓡 code.env .Λ) #lent·described code.function (code.unfolded 𝓤 H 𝓜 𝓡)
     (described-meets 𝓤 H (𝓖 .A) (givenOf 𝓤 H 𝓜 𝓖) (𝓜 .mem) (𝓡 .run) (tablesOf 𝓤 H 𝓜 (tables 𝓤 H 𝓜 𝓡 code.env))
     (cited 𝓤 H (Describe 𝓤 H (𝓖 .A) (𝓜 .mem) (𝓡 .run)) 𝓜 𝓡 code.env #records·describe describe-def.routine code.calls-records·describe (describe-thm.met 𝓤 H 𝓜 𝓖 𝓡)))

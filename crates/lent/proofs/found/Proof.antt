@@ -1,4 +1,4 @@
--- `texts::lent::found` meets its contract: a walk of its MIR, by hand. A copy of the records is lent as a `&[Extent]` for a lifetime that
+-- `lent::found` meets its contract: a walk of its MIR, by hand. A copy of the records is lent as a `&[Extent]` for a lifetime that
 -- is made for the call, and taken back.
 use mathlib.Core.Path.{_≡_, refl, sym, subst}
 use Prim.Native.Nat.{ℕ, _<_, _^_}
@@ -55,11 +55,11 @@ use Rattle.records.proofs.find as find
 use Rattle.records.proofs.find.Symbol as find-def
 use Rattle.records.proofs.find.Symbol.{name as #records·find}
 use Rattle.records.proofs.find.Met as find-thm
-use Rattle.texts.proofs.Arrays.{Records, array, spelt, array-in, array-out}
-use Rattle.texts.proofs.lent.found.Key.{name as #texts·found}
-use Rattle.texts.proofs.lent.found as found
-use Rattle.texts.proofs.lent.found.Statement as stated
-use Rattle.texts.proofs.lent.found.Code as code
+use Rattle.lent.proofs.Arrays.{Records, array, spelt, array-in, array-out}
+use Rattle.lent.proofs.found.Key.{name as #lent·found}
+use Rattle.lent.proofs.found as found
+use Rattle.lent.proofs.found.Statement as stated
+use Rattle.lent.proofs.found.Code as code
 
 abbrev stayed : Stays (found.ended .signature .params) (found.ended .kept)
 stayed = (stay-none (λ _. Records 32) yes, (stay-none (λ _. u64) yes, tt))
@@ -167,6 +167,6 @@ pub found-spec : {M : Type 1} → stated.statement M
 unfolding code.routine tablesOf
 found-spec 𝓤 H 𝓜 𝓖 𝓡 =
     entered 𝓤 H (tripleOf 𝓤 H (𝓖 .A) found.signature (found.spec 𝓤 H (𝓖 .A) (𝓜 .mem) (𝓡 .run)))
-    (tables 𝓤 H 𝓜 𝓡 code.env .C) (tables 𝓤 H 𝓜 𝓡 code.env .Λ) #texts·found code.function (code.unfolded 𝓤 H 𝓜 𝓡)
+    (tables 𝓤 H 𝓜 𝓡 code.env .C) (tables 𝓤 H 𝓜 𝓡 code.env .Λ) #lent·found code.function (code.unfolded 𝓤 H 𝓜 𝓡)
     (found-meets 𝓤 H (𝓖 .A) (givenOf 𝓤 H 𝓜 𝓖) (𝓜 .mem) (𝓡 .run) (tablesOf 𝓤 H 𝓜 (tables 𝓤 H 𝓜 𝓡 code.env))
     (cited 𝓤 H (Find 𝓤 H (𝓖 .A) (𝓜 .mem) (𝓡 .run)) 𝓜 𝓡 code.env #records·find find-def.routine code.calls-records·find (find-thm.met 𝓤 H 𝓜 𝓖 𝓡)))
