@@ -1,0 +1,26 @@
+use Prim.Native.Nat.{_≤_, _-_}
+use mathlib.Core.Path.{_≡_}
+use lib.ListN.{length}
+use borrow.Author.Needs.{needs}
+use Rattle.pairings.proofs.mark.Statement.{statement}
+use Rattle.pairings.proofs.mark.Tie as tie
+
+abbrev Inv-loop : tie.InvT-loop
+Inv-loop out₀ n i₀ out i = (i ≤ n) × (n ≡ length out₀) × (length out ≡ length out₀)
+
+abbrev μ-loop : tie.MeasureT-loop
+μ-loop out₀ n i₀ out i = n - i
+
+pub mark-spec : {M : Type 1} → statement M
+mark-spec =
+    tie.close
+    (tie.spec
+    Inv-loop
+    μ-loop
+    (λ loop-holds. search needs)
+    (λ slice-write-out. search needs)
+    (λ add-i. search needs)
+    (λ loop-less. search needs)
+    (λ loop-again. search needs)
+    (λ same-length. search needs)
+    (λ returns. search needs))

@@ -1,0 +1,202 @@
+#!/usr/bin/env python3
+"""Writes what the program `pairings` is run on and what it must print: crates/pairings/stdin and stdout.
+
+A layer is a list of grains: None (absent), ZERO, or the bytes of a stored one. Images are built from it in layouts of many
+kinds; what a collapse must give is computed from the lists and from document 01's 'The collapsed image' alone. Nothing here
+reads an image.
+"""
+import pathlib
+import random
+import struct
+
+from images import SECTOR, cowd, entries, image, kdmv, small
+
+ZERO = "zero"
+MARK = b"\xa5"
+ROOM = 65536
+
+
+# ---- what document 01 says
+def up(a, b):
+    return -(-a // b)
+
+
+def merged(layers):
+    """A grain is the upper's unless absent there, else the lower's: of any number of layers, base first."""
+    return [next((g for g in reversed(stack) if g is not None), None) for stack in zip(*layers)]
+
+
+def collapsed(capacity, size, grains):
+    """The collapsed image."""
+    tables = up(capacity, 512 * size)
+    first_table = 1 + up(4 * tables, SECTOR)
+    overhead = up(first_table + 4 * tables, size) * size
+    head = b"KDMV" + struct.pack("<IIQQQQ", 2, 5, capacity, size, 0, 0) + struct.pack("<IQQQ", 512, 0, 1, overhead)
+    head += b"\0" + b"\n \r\n" + struct.pack("<H", 0)
+    directory = [first_table + 4 * t for t in range(tables)]
+    table, data = [], b""
+    for number, grain in enumerate(grains):
+        if grain is None:
+            table.append(0)
+        elif grain is ZERO:
+            table.append(1)
+        else:
+            table.append(overhead + len(data) // SECTOR)
+            kept = SECTOR * min(size, capacity - number * size)
+            data += grain[:kept].ljust(SECTOR * size, b"\0")
+    return image(overhead, (0, head), (1, entries(*directory)), (first_table, entries(*table))) + data
+
+
+# ---- images
+def bytes_of(seed, size):
+    """Bytes of a grain: no two sectors are alike, and most of each is."""
+    pattern = random.Random(seed).randbytes(8)
+    return b"".join(struct.pack("<Q", s) + pattern * 63 for s in range(size))
+
+
+def layer(capacity, size, grains, shuffle=0, whole=True, tail=b"", redundant=False, described=False):
+    """An image of these grains: its grains stand in an order of their own, all parts one sector apart. `whole`: a table that is
+    all absent or all zero is told by its directory entry. Unused entries hold 7, which is no part of the image."""
+    n = up(capacity, 512 * size)
+    here, parts = 1 + shuffle % 3, []
+
+    def take(sectors):
+        nonlocal here
+        at, here = here, here + sectors + 1
+        return at
+
+    description = (take(3), 3) if described else (0, 0)
+    copies = [take(up(4 * n, SECTOR)) for _ in range(2 if redundant else 1)]
+    places = list(range(len(grains)))
+    random.Random(shuffle).shuffle(places)
+    directories = [[], []]
+    tables = []
+    for t in range(n):
+        used = grains[512 * t:512 * t + 512]
+        same = whole and used[0] in (None, ZERO) and all(g == used[0] for g in used)
+        for directory, _ in zip(directories, copies):
+            if same:
+                directory.append(0 if used[0] is None else 1)
+            else:
+                directory.append(take(4))
+        tables.append(not same)
+    found = {g: take(size) for g in places if isinstance(grains[g], bytes)}
+    number = [0 if g is None else 1 if g is ZERO else found[i] for i, g in enumerate(grains)]
+    for directory, at in zip(directories, copies):
+        parts.append((at, entries(*directory)))
+        for t, told in enumerate(tables):
+            if told:
+                parts.append((directory[t], entries(*(number[512 * t:512 * t + 512] + [7] * 512)[:512])))
+    parts += [(at, grains[g]) for g, at in found.items()]
+    head = kdmv(capacity, size, copies[0], descriptor=description, redundant=copies[1] if redundant else 0, flags=5)
+    return image(here, (0, head), *parts) + tail
+
+
+# ---- cases
+CASES = []
+
+
+def digest(data):
+    h = 0
+    for b in data:
+        h = (257 * h + b + 1) % 36028797018963913
+    return h
+
+
+def line(number, place, result, room=ROOM):
+    return f"{number} {place} {len(result)} {digest(result + MARK * (room - len(result)))}\n"
+
+
+def chain(capacity, size, layers, **how):
+    """A chain of layers, given as grains: each order of pairing gives the same bytes."""
+    images = [layer(capacity, size, grains, shuffle=i, **how) for i, grains in enumerate(layers)]
+    orders = {1: 1, 2: 1, 3: 2, 4: 5}[len(layers)]
+    CASES.append((images, ROOM, line(0, 0, collapsed(capacity, size, merged(layers))) * orders))
+
+
+def refused(number, *images, place=0, room=ROOM):
+    CASES.append((list(images), room, line(number, place, b"", room)))
+
+
+def written(images, result, room):
+    CASES.append((images, room, line(0, 0, result, room)))
+
+
+def main():
+    asked, wanted = b"", ""
+    for images, room, lines in CASES:
+        lengths = [len(i) for i in images] + [0] * (4 - len(images))
+        assert max(lengths) <= ROOM
+        asked += struct.pack("<6Q", len(images), room, *lengths) + b"".join(images)
+        wanted += lines
+    crate = pathlib.Path(__file__).resolve().parent.parent / "crates" / "pairings"
+    (crate / "stdin").write_bytes(asked)
+    (crate / "stdout").write_text(wanted)
+    print(f"{len(CASES)} cases, {wanted.count(chr(10))} answers, {len(asked)} bytes")
+
+
+# one grain of each kind over each other, capacity at a grain's end and inside one: 8 grains of 8 sectors
+A, B, C, D = (bytes_of(seed, 8) for seed in "abcd")
+NOTHING = bytes(8 * SECTOR)
+for capacity in (57, 64):
+    base = [A, A, A, ZERO, ZERO, None, None, A]
+    middle = [None, ZERO, B, None, B, None, ZERO, B]
+    third = [C, None, ZERO, C, None, None, C, None]
+    top = [None, None, NOTHING, ZERO, None, ZERO, NOTHING, D]
+    chain(capacity, 8, [base])
+    chain(capacity, 8, [base, middle])
+    chain(capacity, 8, [base, middle, third])
+    chain(capacity, 8, [base, third, top], redundant=True)
+    chain(capacity, 8, [base, middle, third, top])
+    chain(capacity, 8, [top, third, middle, base], described=True)
+    chain(capacity, 8, [middle, base, top, third], redundant=True, described=True)
+    chain(capacity, 8, [[None] * 8, [ZERO] * 8, [None] * 8, [None] * 8])
+    chain(capacity, 8, [[NOTHING] * 8, [None] * 8, [None] * 8, [None] * 8], whole=False)
+    chain(capacity, 8, [[A] * 8, [ZERO] * 8, [None] * 8, [None] * 7 + [D]], whole=False)
+# the least capacity, and bytes past the last whole sector
+chain(1, 8, [[A], [None], [B]])
+chain(16, 8, [[A, None], [ZERO, B], [None, ZERO], [None, None]], tail=b"past" * 100)
+# larger grains, where the gap is long
+chain(40, 16, [[bytes_of(7, 16), None, ZERO], [None, bytes_of(8, 16), None], [ZERO, None, bytes_of(9, 16)]])
+chain(65, 64, [[bytes_of(10, 64), None], [None, ZERO], [None, None], [None, None]])
+# two tables, the second with one grain in use, and told by the directory alone
+FAR = [None] * 513
+chain(4097, 8, [FAR[:-1] + [A], FAR, [ZERO] + FAR[1:], FAR])
+chain(4097, 8, [FAR[:-1] + [A], [ZERO] * 513, FAR[:511] + [B, None]])
+chain(4104, 8, [FAR[:512] + [A], FAR[:512] + [ZERO], [None] * 511 + [C, None]], whole=False)
+
+# random chains of three and four
+for seed in range(16):
+    dice = random.Random(seed)
+    capacity = dice.randint(1, 64)
+    layers = [[dice.choice([None, None, ZERO, NOTHING, bytes_of(dice.random(), 8)]) for _ in range(up(capacity, 8))]
+              for _ in range(dice.choice([3, 4, 4]))]
+    chain(capacity, 8, layers, redundant=dice.random() < 0.3, described=dice.random() < 0.3, whole=dice.random() < 0.5)
+
+# ---- refusals, and the output's edge. The lower's check, the upper's check, 23, 22, 21
+LOW, HIGH = small(8, 0), small(0, 8)
+RESULT = collapsed(16, 8, [LOW[8 * SECTOR:], HIGH[8 * SECTOR:]])
+WIDE = small(8, 0, head=kdmv(24))
+PACKED = image(16, (0, kdmv(flags=0x10001, compression=1)), (1, entries(2)))
+COWD = image(38, (0, cowd(16, 8)), (4, entries(5)), (5, entries(0, 37)))[:37 * SECTOR] + bytes(8 * SECTOR)
+written([LOW, HIGH], RESULT, len(RESULT))
+written([LOW, HIGH], RESULT, len(RESULT) + 1)
+written([LOW], collapsed(16, 8, [LOW[8 * SECTOR:], None]), 8192)
+refused(21, LOW, HIGH, room=len(RESULT) - 1)
+refused(21, LOW, room=8191)
+refused(21, LOW, room=0)
+refused(2, b"abcd", b"")
+refused(1, LOW, b"")
+refused(9, small(9, 0), b"abcd")
+refused(9, LOW, small(8, 9), place=1)
+refused(12, LOW, small(8, 8))
+refused(12, small(8, 8))
+refused(8, small(8, 0, head=kdmv(directory=0)))
+refused(23, COWD, WIDE)
+refused(23, WIDE, PACKED, room=0)
+refused(23, COWD)
+refused(23, PACKED)
+refused(22, LOW, WIDE, room=0)
+refused(22, LOW, small(8, 0, head=kdmv(size=16), sectors=32))
+
+main()
