@@ -10,19 +10,8 @@ use std::process::exit;
 
 fn main() {
     let [count, seed, first] = numbers("compare", 100_000);
-    let calls = vec![
-        Call::Check,
-        Call::Header,
-        Call::Lookup,
-        Call::Chain,
-        Call::Read,
-        Call::Normal,
-        Call::Collapse,
-        Call::Descriptor,
-        Call::Find,
-    ];
     let folder = std::env::temp_dir().join("anhkhovet-differences");
-    let mut run = Run::new([tested(), &Plain], calls, folder);
+    let mut run = Run::new([tested(), &Plain], Call::all(), folder);
     run_cases(&mut run, seed, first, count);
     println!("{}", run.tally);
     exit(i32::from(!run.tally.good()));

@@ -29,6 +29,13 @@ const CALLS: [(Call, &str); 9] = [
     (Find, "find"),
 ];
 
+impl Call {
+    /// All of them, in the table's order.
+    pub fn all() -> Vec<Call> {
+        CALLS.iter().map(|(call, _)| *call).collect()
+    }
+}
+
 /// Kinds of answers, with the calls that can give them.
 const ANSWERS: [(&str, &[Call]); 19] = [
     ("accepted KDMV", &[Check, Header]),

@@ -122,18 +122,7 @@ impl Side for Mistake {
 }
 
 fn tally(mistake: Mistake, count: u64) -> Tally {
-    let calls = vec![
-        Call::Check,
-        Call::Header,
-        Call::Lookup,
-        Call::Chain,
-        Call::Read,
-        Call::Normal,
-        Call::Collapse,
-        Call::Descriptor,
-        Call::Find,
-    ];
-    let mut run = Run::new([&mistake, &Plain], calls, PathBuf::new());
+    let mut run = Run::new([&mistake, &Plain], Call::all(), PathBuf::new());
     run.quiet = true;
     run_cases(&mut run, 1, 0, count);
     run.tally

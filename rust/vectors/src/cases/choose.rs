@@ -21,18 +21,6 @@ const MOST_ROOM: u64 = 65_536;
 /// Samples small enough to be stored a second time.
 const SAMPLES: [&str; 3] = ["cowd-s001", "vmdkstream", "stream-optimized-data"];
 
-const CALLS: [Call; 9] = [
-    Call::Check,
-    Call::Header,
-    Call::Lookup,
-    Call::Chain,
-    Call::Read,
-    Call::Normal,
-    Call::Collapse,
-    Call::Descriptor,
-    Call::Find,
-];
-
 /// The program's input.
 pub fn input(root: &Path) -> io::Result<Vec<u8>> {
     let mut bytes = Vec::new();
@@ -100,7 +88,7 @@ fn wanted(case: &Case, answer: &str) -> u64 {
 /// What the generators ask, small images first.
 fn candidates() -> Vec<Case> {
     let recorder = Recorder::default();
-    let mut run = Run::new([&recorder, &Plain], CALLS.to_vec(), PathBuf::new());
+    let mut run = Run::new([&recorder, &Plain], Call::all(), PathBuf::new());
     let mut candidates = Vec::new();
     for number in 0..TRIED {
         case(&mut run, &mut Rng::new(SEED, number), number);
