@@ -1,12 +1,10 @@
 -- Rows written one after another, as a loop writes them.
-use Prim.Native.Nat.{ℕ, suc, _+_, _*_, _≤_, _<_}
-use mathlib.Core.Path.{_≡_, sym, ap, _∙_}
+use Prim.Native.Nat.{ℕ, _+_, _*_, _≤_}
+use mathlib.Core.Path.{_≡_, ap, _∙_}
 use mathlib.Core.List.{List}
 use native.Mathlib.Omega.{arith}
-use native.Mathlib.Nat.{le-refl}
 use native.Mathlib.Numerals.{add-one}
-use native.Mathlib.Decide.{le-ind}
-use lib.ListN.{length, length-append}
+use lib.ListN.{length}
 use Rattle.base.specs.Numbers.{leBytes}
 use Rattle.base.specs.Bytes.{over}
 use Rattle.base.specs.Rows.{rows, entries}
@@ -25,16 +23,6 @@ module _ (f : ℕ → List ℕ) where
   unfolding rows
   rows-more d xs ys at here k p e l h =
       rw add-one (last d at ys (f k) xs (rows k f) here p (record { is = e; ends = l; room = h }))
-
-  pub rows-longer : (k : ℕ) → length (rows (k + 1) f) ≡ length (rows k f) + length (f k)
-  unfolding rows
-  rows-longer k = rw add-one (length-append (rows k f) (f k))
-
-  pub rows-within : (k n : ℕ) → k < n → length (rows k f) + length (f k) ≤ length (rows n f)
-  unfolding rows
-  rows-within k n h =
-      le-ind (λ i. length (rows k f) + length (f k) ≤ length (rows i f)) (rw length-append (le-refl _))
-      (λ i (l : k < i) e. rw length-append (omega arith)) n h
 
 module _ (e : ℕ → ℕ) where
   pub entries-long : (k : ℕ) → length (entries k e) ≡ 4 * k

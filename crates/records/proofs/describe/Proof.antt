@@ -1,4 +1,4 @@
--- `describe::read_descriptor` meets its contract: a walk of its MIR, by hand. Three calls in a row: `parse`, `store` of what it made, and `answer` of both.
+-- `records::describe` meets its contract: a walk of its MIR, by hand. Three calls in a row: `parse`, `store` of what it made, and `answered` of both.
 -- All that the proof knows of the three is that they meet their contracts.
 -- Assumes nothing.
 use mathlib.Core.Path.{_≡_, refl, ap, subst, _∙_}

@@ -2,7 +2,7 @@
 --     exits     from what is had at exit to the `post` of `walkOf`, at a result that the clause allows.        ends     every local is freed: both returns come here
 --     Upto      the loop's variant: the place i that the search has come to, with i ≤ length, and that what is found from there is what is found from the start.        At    the loop's invariant
 --     turns     a turn from the invariant: the record at i is copied out of the list, as in `at`, and `holds` is called. The function returns, or the search goes on at i + 1; or the loop is left and the rest of the body runs
---     walk      the MIR up to the loop, and the loop by `Types/Run.antt`'s `loops`
+--     walk      the MIR up to the loop, and the loop by the kit's `loops`
 -- The slice is looked into anew in each turn, and shut again before the call.
 -- Assumes nothing.
 use mathlib.Core.Path.{_≡_, refl, sym, ap, _∙_}
