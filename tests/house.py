@@ -2,13 +2,36 @@
 """Writes docs/HOUSE.md and docs/EDITS.md from the sources and from the log of a gate's run: tests/house.py LOG.
 
 HOUSE.md has the lines of each crate and the seconds that the gate took for it, EDITS.md each must-fail edit with the place
-of the first error that the prover gave."""
-import os
+of the first error that the prover gave, and what stands there. Without a log, it prints each public call that has fewer than
+two of the edits below, and each of these that is not there."""
 import re
 import sys
 from pathlib import Path
 
 root = Path(__file__).resolve().parent.parent
+# Wrong programs for each public call, by the crate whose function the edit changes.
+calls = {
+    'check': 'accept/accepts_all accept/refuses_all accept/copies_stop_at_zero overlap/one_window',
+    'header': 'header/cowd_as_kdmv header/newline_as_flags answers/head_capacity',
+    'lookup': 'exports/lookup_first lookup/always_absent lookup/parent_for_zero',
+    'read': 'exports/read_first lookup/part_for_zero lookup/part_on_refusal',
+    'chain': 'exports/chain_first chain/base_first chain/sector_first',
+    'normal': 'collapse/writes_nothing collapse/room_not_judged collapse/first_grain_only answers/written_nothing',
+    'collapse': 'exports/collapse_lower collapse/lower_first collapse/zero_as_absent',
+    'descriptor': 'exports/list_as_lent records/first_left_out records/record_past_last text/line_before',
+    'find': 'exports/find_of_first records/one_sector_more records/other_number',
+}
+if len(sys.argv) < 2:
+    for call, names in calls.items():
+        if f'fn anhkhovet_{call}(' not in ''.join(path.read_text() for path in root.glob('crates/exports/src/*.rt')):
+            print(f'no public call {call}')
+        for name in names.split():
+            crate, edit = name.split('/')
+            if not (root / 'crates' / crate / 'must-fail' / f'{edit}.edit').exists():
+                print(f'{call}: no edit {name}')
+        if len(names.split()) < 2:
+            print(f'{call}: fewer than two edits')
+    sys.exit()
 log = Path(sys.argv[1]).read_text()
 
 
@@ -49,16 +72,41 @@ one job beside another on two cores; edits run after the crates, two at a time.
 |---|---|---|---|---|---|---|---|---|
 ''' + '\n'.join(table) + '\n')
 
+
+def stands_at(crate, place):
+    """What the prover was asked to show at a place of a proof: the name that the proof has for it, or the line itself."""
+    file, line = place.split(':')[:2]
+    path = root / 'crates' / crate / file
+    text = path.read_text().splitlines()[int(line) - 1].strip() if path.exists() else ''
+    asked = re.search(r'λ ([a-z][\w-]*)', text)
+    return f'`{asked[1]}`' if asked else f'`{text[:60]}`'.replace('|', '\\|') if text else ''
+
+
 rows = []
 for crate, name, place, seconds in refused:
     said = (root / 'crates' / crate / 'must-fail' / f'{name}.edit').read_text().splitlines()[0].lstrip('# ')
-    rows.append(f'| {crate} | {name} | {said} | {place} |')
+    rows.append(f'| {crate}/{name} | {said} | {place} | {stands_at(crate, place)} |')
+by_call = [f'| `anhkhovet_{call}` | {names.replace(" ", ", ")} |' for call, names in calls.items()]
 (root / 'docs/EDITS.md').write_text('''# What the prover has to refuse
 
-Written by tests/house.py from the log of a gate's run: each edit of `crates/CRATE/must-fail`, what it makes of the program, and
-where the prover's first error stands in the edited crate.
+Written by tests/house.py from the log of a gate's run. An edit of `crates/CRATE/must-fail` makes a wrong program, and the gate
+fails unless the prover refuses it. Each keeps the shape of the code, so that it is refused at a fact.
 
-| crate | edit | what it does | first error |
+## Wrong programs by public call
+
+A call is a line or two over the crates below it, and its contract cites the same definition as theirs does: a program that is
+wrong there is wrong here.
+
+| call | wrong programs |
+|---|---|
+''' + '\n'.join(by_call) + '''
+
+## All of them
+
+The first error of each log: where it stands in the edited crate, and what was to be shown there (`returns` is the contract
+itself, `..-requires` what a callee asks for; else the line of the proof).
+
+| edit | what it does | first error | what was to be shown |
 |---|---|---|---|
 ''' + '\n'.join(rows) + '\n')
 print(f'{len(crates)} crates, {len(refused)} edits')

@@ -1,18 +1,18 @@
 #!/usr/bin/env python3
-"""Writes what the program `pairings` is run on and what it must print: crates/pairings/stdin and stdout.
+"""Writes tests/cases/pairings, which the program `cases` is run on, and what it must print.
 
 A layer is a list of grains: None (absent), ZERO, or the bytes of a stored one. Images are built from it in layouts of many
 kinds; what a collapse must give is computed from the lists and from document 01's 'The collapsed image' alone. Nothing here
 reads an image.
 """
-import pathlib
 import random
 import struct
 
+from asked import COLLAPSE, case, digest, line, write
 from images import SECTOR, cowd, entries, image, kdmv, small
 
 ZERO = "zero"
-MARK = b"\xa5"
+MARK = b"\xaa"
 ROOM = 65536
 
 
@@ -93,46 +93,28 @@ def layer(capacity, size, grains, shuffle=0, whole=True, tail=b"", redundant=Fal
 
 
 # ---- cases
-CASES = []
+CASES, LINES = [], []
 
 
-def digest(data):
-    h = 0
-    for b in data:
-        h = (257 * h + b + 1) % 36028797018963913
-    return h
-
-
-def line(number, place, result, room=ROOM):
-    return f"{number} {place} {len(result)} {digest(result + MARK * (room - len(result)))}\n"
+def told(images, number, place, result, room=ROOM, orders=1):
+    """A case, and the line for each order of pairing."""
+    CASES.append(case(COLLAPSE, b"".join(images), lengths=[len(i) for i in images], room=room))
+    call = "collapse" if images[1:] else "normal"
+    LINES.extend([line(call, number, place, len(result), digest(result + MARK * (room - len(result))))] * orders)
 
 
 def chain(capacity, size, layers, **how):
-    """A chain of layers, given as grains: each order of pairing gives the same bytes."""
+    """A chain of layers, given as grains: each order of pairing, of four one twice, gives the same bytes."""
     images = [layer(capacity, size, grains, shuffle=i, **how) for i, grains in enumerate(layers)]
-    orders = {1: 1, 2: 1, 3: 2, 4: 5}[len(layers)]
-    CASES.append((images, ROOM, line(0, 0, collapsed(capacity, size, merged(layers))) * orders))
+    told(images, 0, 0, collapsed(capacity, size, merged(layers)), orders={1: 1, 2: 1, 3: 2, 4: 6}[len(layers)])
 
 
 def refused(number, *images, place=0, room=ROOM):
-    CASES.append((list(images), room, line(number, place, b"", room)))
+    told(images, number, place, b"", room)
 
 
 def written(images, result, room):
-    CASES.append((images, room, line(0, 0, result, room)))
-
-
-def main():
-    asked, wanted = b"", ""
-    for images, room, lines in CASES:
-        lengths = [len(i) for i in images] + [0] * (4 - len(images))
-        assert max(lengths) <= ROOM
-        asked += struct.pack("<6Q", len(images), room, *lengths) + b"".join(images)
-        wanted += lines
-    crate = pathlib.Path(__file__).resolve().parent.parent / "crates" / "pairings"
-    (crate / "stdin").write_bytes(asked)
-    (crate / "stdout").write_text(wanted)
-    print(f"{len(CASES)} cases, {wanted.count(chr(10))} answers, {len(asked)} bytes")
+    told(images, 0, 0, result, room)
 
 
 # one grain of each kind over each other, capacity at a grain's end and inside one: 8 grains of 8 sectors
@@ -199,4 +181,4 @@ refused(23, PACKED)
 refused(22, LOW, WIDE, room=0)
 refused(22, LOW, small(8, 0, head=kdmv(size=16), sectors=32))
 
-main()
+write("pairings", CASES, LINES)

@@ -1,12 +1,12 @@
 #!/usr/bin/env python3
-"""Writes what the program `sectors` is run on and what it must print: crates/sectors/stdin and stdout.
+"""Writes tests/cases/sectors, which the program `cases` is run on, and what it must print.
 
 Each case is an image or a chain, built byte by byte, with sectors and the answer that document 01 gives for each, written
-down by hand: both sides of each edge. Nothing here reads an image.
+down by hand: both sides of each edge. Nothing here reads an image but for the bytes that an answer names.
 """
-import pathlib
 import struct
 
+from asked import CHAIN, LOOKUPS, case, digest, line, write
 from images import ALL_ONES, FOOTER, PACKED, SECTOR, STREAM, cowd, entries, image, kdmv, marker, small, stream
 
 
@@ -31,20 +31,37 @@ def packed(sector, size, offset, layer=0):
     return (0, layer, 0, 3, sector, size, offset)
 
 
-CASES = []
+def bytes_read(data, answer):
+    """What the grain reader hands back: a stored sector, or a packed grain's payload after the marker."""
+    number, _, _, kind, sector, size, _ = answer
+    start, length = {2: (0, SECTOR), 3: (12, size)}.get(kind, (0, 0))
+    return b"" if number else data[sector * SECTOR + start:][:length]
+
+
+CASES, LINES = [], []
 
 
 def lookups(data, *asked):
-    CASES.append((0, [], data, asked))
+    CASES.append(case(LOOKUPS, data, [sector for sector, _ in asked]))
+    for _, answer in asked:
+        part = bytes_read(data, answer)
+        LINES.extend([line("lookup", *answer), line("read", len(part), digest(part))])
 
 
 def chain(layers, *asked, lengths=None):
-    CASES.append((1, [len(s) for s in layers] if lengths is None else lengths, b"".join(layers), asked))
+    lengths = [len(s) for s in layers] if lengths is None else lengths
+    CASES.append(case(CHAIN, b"".join(layers), [sector for sector, _ in asked], lengths))
+    LINES.extend(line("chain", *answer) for _, answer in asked)
+
+
+def numbered(sectors):
+    """Sectors numbered from 1, no two alike: it shows which one was read."""
+    return b"".join(struct.pack("<Q", n) * 64 for n in range(1, sectors + 1))
 
 
 # ---- the lookup
 # document 01's example, source 000's sample
-lookups(image(384, (0, kdmv(8192, 128, 26)), (26, entries(27)), (27, entries(128, 0, 256))),
+lookups(image(384, (0, kdmv(8192, 128, 26)), (26, entries(27)), (27, entries(128, 0, 256)), (128, numbered(256))),
         (0, stored(128)), (2, stored(130)), (127, stored(255)), (128, absent()), (255, absent()), (256, stored(256)),
         (383, stored(383)), (384, absent()), (8191, absent()), (8192, refused(20)), (ALL_ONES, refused(20)))
 # entry 1 is zeros in KDMV, in tables and directories, and a sector in COWD
@@ -108,7 +125,8 @@ lookups(small(0, 8, head=kdmv(capacity=9), sectors=15), (8, refused(9, 1)), (9, 
 lookups(small(2**32 - 1, 0), (0, refused(9, 0)))
 lookups(small(8, 8)[:-1], (0, refused(9, 0)))
 # 10, and packed grains
-lookups(image(7, (0, PACKED), (1, entries(2)), (2, entries(6, 0)), (6, marker(0, 500))), (0, packed(6, 500, 0)), (7, packed(6, 500, 7)))
+lookups(image(7, (0, PACKED), (1, entries(2)), (2, entries(6, 0)), (6, marker(0, 500) + numbered(1)[:500])),
+        (0, packed(6, 500, 0)), (7, packed(6, 500, 7)))
 lookups(image(7, (0, PACKED), (1, entries(2)), (2, entries(6, 0)), (6, marker(0, 501))), (0, refused(9, 0)))
 lookups(image(8, (0, PACKED), (1, entries(2)), (2, entries(6, 0)), (6, marker(0, 501))), (3, packed(6, 501, 3)))
 lookups(image(7, (0, PACKED), (1, entries(2)), (2, entries(6, 0)), (6, marker(0, 0))), (0, refused(10, 0)))
@@ -156,24 +174,4 @@ chain([BASE], (0, refused(24)), lengths=[2**64 - 1, len(BASE) + 1])
 chain([BASE], (0, refused(24)), lengths=[])
 chain([BASE], (0, refused(1, layer=1)), lengths=[len(BASE), 0])
 
-
-def length_read(answer):
-    number, kind, size = answer[0], answer[3], answer[5]
-    return 0 if number else {0: 0, 1: 0, 2: 512, 3: size}[kind]
-
-
-def main():
-    asked, wanted = b"", ""
-    for call, lengths, data, questions in CASES:
-        asked += struct.pack("<QQQQ", call, len(questions), len(lengths), len(data))
-        asked += b"".join(struct.pack("<Q", s) for s, _ in questions) + b"".join(struct.pack("<Q", n) for n in lengths) + data
-        for _, answer in questions:
-            line = " ".join(map(str, answer)) + " "
-            wanted += (line + str(length_read(answer)) if call == 0 else line) + "\n"
-    crate = pathlib.Path(__file__).resolve().parent.parent / "crates" / "sectors"
-    (crate / "stdin").write_bytes(asked)
-    (crate / "stdout").write_text(wanted)
-    print(f"{len(CASES)} cases, {wanted.count(chr(10))} answers, {len(asked)} bytes")
-
-
-main()
+write("sectors", CASES, LINES)

@@ -1,5 +1,5 @@
 #!/usr/bin/env python3
-"""Writes what the program `texts` is run on and what it must print: crates/texts/stdin and stdout.
+"""Writes tests/cases/texts, which the program `cases` is run on, and what it must print.
 
 What must be printed comes from `read`, a plain reading written from document 01 alone. Beside each edge text stands the refusal's
 number and place, written down by hand (nothing: accepted); where the two disagree, nothing is written.
@@ -7,7 +7,8 @@ number and place, written down by hand (nothing: accepted); where the two disagr
 import pathlib
 import random
 import re
-import struct
+
+import asked
 
 HERE = pathlib.Path(__file__).resolve().parent
 
@@ -297,17 +298,10 @@ for _ in range(150):
     text = pick.choice(("\n", "\r\n", " \n")).join(head + tail[pick.randrange(10) == 0:]).encode()
     CASES.append((text, (0, 3, 4, 12, 21)))
 
-
-def main():
-    asked, wanted = b"", []
-    for data, sectors in CASES:
-        asked += struct.pack(f"<QQ{len(sectors)}Q", len(sectors), len(data), *sectors) + data
-        answer, held, extents = described(data, 4)
-        wanted += [answer, *held, *extents, *(found(extents, s) for s in sectors if extents)]
-    crate = HERE.parent / "crates" / "texts"
-    (crate / "stdin").write_bytes(asked)
-    (crate / "stdout").write_text("".join("".join(f"{n} " for n in row) + "\n" for row in wanted))
-    print(f"{len(CASES)} texts, {len(wanted)} lines, {len(asked)} bytes")
-
-
-main()
+LINES = []
+for data, sectors in CASES:
+    answer, held, extents = described(data, 4)
+    LINES.append(asked.line("descriptor", *answer))
+    LINES.extend(asked.line("record", *record) for record in held + extents)
+    LINES.extend(asked.line("find", *found(extents, sector)) for sector in sectors if extents)
+asked.write("texts", [asked.case(asked.TEXT, data, sectors) for data, sectors in CASES], LINES)

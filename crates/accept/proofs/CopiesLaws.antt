@@ -9,8 +9,8 @@ use borrow.Author.Tests.{eq-eqb, ne-eqb}
 use Rattle.base.specs.Pick.{pick}
 use Rattle.base.specs.Rounding.{ceil}
 use Rattle.format.specs.Geometry.{grains}
-use Rattle.format.specs.Header.{entriesOf}
-use Rattle.format.specs.Entries.{tableAt, some}
+use Rattle.format.specs.Header.{directoryEntriesOf}
+use Rattle.format.specs.Entries.{meaningAt, anyBelow}
 use Rattle.format.specs.Check.{copyDiffers, copiesDiffer}
 use Rattle.format.specs.declared.Header.{Header}
 use Rattle.format.specs.declared.Entry.{Entry}
@@ -29,7 +29,9 @@ pub room-used : (s : List ℕ) (per m n : ℕ) (a v : Entry) → Room s per v �
 room-used s per m n a v f e q t i = omega (arith, f t (sym e ∙ i))
 
 module _ (n d : ℕ) (l : d < n) where
-  pub room-below : (s : List ℕ) (oneIsZero : Bool) (per directory : ℕ) → ((d t : ℕ) → d < n → tableAt s oneIsZero directory d ≡ Sector t → 512 * t + 4 * per ≤ length s) → Room s per (tableAt s oneIsZero directory d)
+  pub room-below : (s : List ℕ) (oneIsZero : Bool) (per directory : ℕ)
+      → ((d t : ℕ) → d < n → meaningAt s oneIsZero directory d ≡ Sector t → 512 * t + 4 * per ≤ length s)
+      → Room s per (meaningAt s oneIsZero directory d)
   room-below s oneIsZero per directory f t e = f d t l e
 
   pub used-below : (per grains : ℕ) → ((d : ℕ) → d < n → d * per < grains) → d * per < grains
@@ -37,7 +39,8 @@ module _ (n d : ℕ) (l : d < n) where
 
 -- ---- two entries
 -- at an arm of a match
-pub copy-as : (s : List ℕ) (n : ℕ) (z : Bool) (a b v w : Entry) → a ≡ v → b ≡ w → z ≡ copyDiffers s n v w → z ≡ copyDiffers s n a b
+pub copy-as : (s : List ℕ) (n : ℕ) (z : Bool) (a b v w : Entry) → a ≡ v → b ≡ w → z ≡ copyDiffers s n v w → z
+    ≡ copyDiffers s n a b
 copy-as s n z a b v w e q t = rw (e, q) t
 
 -- ---- all entries in use, where there is a redundant directory and where not
@@ -45,8 +48,10 @@ pub no-copies : (s : List ℕ) (h : Header) → h .redundant ≡ 0 → false ≡
 unfolding copiesDiffer pick
 no-copies s h none = rw (eq-eqb (h .redundant) 0 none)
 
-pub both-compared : {r : Bool} (s : List ℕ) (h : Header) (n g : ℕ) → (h .redundant ≡ 0 → ⊥) → n ≡ entriesOf h → g ≡ ceil (h .capacity) (h .«grain_size»)
-    → r ≡ some (λ d. copyDiffers s (min (h .«entries_per_table») (g - d * h .«entries_per_table»)) (tableAt s (h .«one_is_zero») (h .directory) d) (tableAt s (h .«one_is_zero») (h .redundant) d)) n
+pub both-compared : {r : Bool} (s : List ℕ) (h : Header) (n g : ℕ) → (h .redundant ≡ 0 → ⊥) → n ≡ directoryEntriesOf h → g
+    ≡ ceil (h .capacity) (h .«grain_size»)
+    → r ≡ anyBelow (λ d. copyDiffers s (min (h .«entries_per_table») (g - d * h .«entries_per_table»))
+    (meaningAt s (h .«one_is_zero») (h .directory) d) (meaningAt s (h .«one_is_zero») (h .redundant) d)) n
     → r ≡ copiesDiffer s h
 unfolding copiesDiffer pick grains
 both-compared s h n g one e q t = rw (ne-eqb (h .redundant) 0 one, ← e) (simp q at t)

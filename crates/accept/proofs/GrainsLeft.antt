@@ -33,7 +33,8 @@ module _ (p : ℕ → Bool) (n : ℕ) where
   left-one : (g : ℕ) → Left p n g → p g ≡ false → Left p n (g + 1)
   unfolding pick
   left-one g l e =
-      ⊎-elim (λ h. record { whole = l .whole ∙ rw (left-step g h, e) }) (λ h. left-over g (g + 1) l h (omega arith)) (lt-or-ge g n)
+      ⊎-elim (λ h. record { whole = l .whole ∙ rw (left-step g h, e) }) (λ h. left-over g (g + 1) l h (omega arith))
+      (lt-or-ge g n)
 
   -- ---- the walk's steps, each premise as the code gives it
   -- a run of grains that are none

@@ -4,16 +4,17 @@ ghost use mathlib.Core.Bool.{not};
 ghost use Prim.Native.Nat.{ℕ, _+_, _-_, _*_, _≤_, _<_, min};
 ghost use lib.Dec.{eqb};
 ghost use lib.ListN.{length};
-ghost use Rattle.format.specs.Entries.{entryAt, tableAt, some};
+ghost use Rattle.format.specs.Entries.{entryAt, meaningAt, anyBelow};
 ghost use Rattle.format.specs.Check.{tablesDiffer, copyDiffers, copiesDiffer};
 ghost use Rattle.format.specs.declared.Entry.the-variants.{Sector};
 ghost use Rattle.accept.specs.Placed.{Placed};
-use super::used::entries_in_use;
 use format::Entry;
 use format::Header;
 use header::sizes::directory_entries;
+use header::sizes::entries_in_use;
+use header::sizes::grains_of;
 use lookup::entries::entry_at;
-use lookup::entries::table_at;
+use lookup::entries::meaning_at;
 
 // Whether entry k of the tables at sectors t and u differs.
 fn differ_at(image: &[u8], t: u64, u: u64, k: u64) -> bool
@@ -64,54 +65,42 @@ fn copy_differs(image: &[u8], n: u64, entry: Entry, copy: Entry) -> bool
 }
 
 // Whether entry d of the two directories, or its tables, differ.
-fn entry_differs(
-    image: &[u8],
-    one_is_zero: bool,
-    directory: u64,
-    redundant: u64,
-    per_table: u64,
-    grains: u64,
-    d: u64,
-) -> bool
-    requires { ⌜ (512 * directory + 4 * d + 4 ≤ length (now image)) × (512 * redundant + 4 * d + 4 ≤ length (now image)) ⌝ }
-    requires { ⌜ d * «per_table» < grains ⌝ }
-    requires { ⌜ ((t : ℕ) → tableAt (now image) «one_is_zero» directory d ≡ Sector t → 512 * t + 4 * «per_table» ≤ length (now image)) ⌝ }
-    requires { ⌜ ((u : ℕ) → tableAt (now image) «one_is_zero» redundant d ≡ Sector u → 512 * u + 4 * «per_table» ≤ length (now image)) ⌝ }
-    ensures { λ r. ⌜ r ≡ copyDiffers (now (image .entry)) (min «per_table» (grains - d * «per_table»)) (tableAt (now (image .entry)) «one_is_zero» directory d) (tableAt (now (image .entry)) «one_is_zero» redundant d) ⌝ }
+fn entry_differs(image: &[u8], h: Header, grains: u64, d: u64) -> bool
+    requires { ⌜ (512 * h .directory + 4 * d + 4 ≤ length (now image))
+        × (512 * h .redundant + 4 * d + 4 ≤ length (now image)) ⌝ }
+    requires { ⌜ d * h .«entries_per_table» < grains ⌝ }
+    requires { ⌜ ((t : ℕ) → meaningAt (now image) (h .«one_is_zero») (h .directory) d ≡ Sector t → 512 * t
+        + 4 * h .«entries_per_table» ≤ length (now image)) ⌝ }
+    requires { ⌜ ((u : ℕ) → meaningAt (now image) (h .«one_is_zero») (h .redundant) d ≡ Sector u → 512 * u
+        + 4 * h .«entries_per_table» ≤ length (now image)) ⌝ }
+    ensures { λ r.
+        ⌜ r ≡ copyDiffers (now (image .entry)) (min (h .«entries_per_table») (grains - d * h .«entries_per_table»))
+        (meaningAt (now (image .entry)) (h .«one_is_zero») (h .directory) d)
+        (meaningAt (now (image .entry)) (h .«one_is_zero») (h .redundant) d) ⌝ }
 {
-    let n = entries_in_use(per_table, grains - d * per_table);
-    let entry = table_at(image, one_is_zero, directory, d);
-    let copy = table_at(image, one_is_zero, redundant, d);
+    let n = entries_in_use(h.entries_per_table, grains - d * h.entries_per_table);
+    let entry = meaning_at(image, h.one_is_zero, h.directory, d);
+    let copy = meaning_at(image, h.one_is_zero, h.redundant, d);
     copy_differs(image, n, entry, copy)
 }
 
 // The same of the first n entries of the two directories.
-fn directories_differ(
-    image: &[u8],
-    one_is_zero: bool,
-    directory: u64,
-    redundant: u64,
-    per_table: u64,
-    grains: u64,
-    n: u64,
-) -> bool
-    requires { ⌜ (512 * directory + 4 * n ≤ length (now image)) × (512 * redundant + 4 * n ≤ length (now image)) ⌝ }
-    requires { ⌜ ((d : ℕ) → d < n → d * «per_table» < grains) ⌝ }
-    requires { ⌜ ((d t : ℕ) → d < n → tableAt (now image) «one_is_zero» directory d ≡ Sector t → 512 * t + 4 * «per_table» ≤ length (now image)) ⌝ }
-    requires { ⌜ ((d u : ℕ) → d < n → tableAt (now image) «one_is_zero» redundant d ≡ Sector u → 512 * u + 4 * «per_table» ≤ length (now image)) ⌝ }
-    ensures { λ r. ⌜ r ≡ some (λ d. copyDiffers (now (image .entry)) (min «per_table» (grains - d * «per_table»)) (tableAt (now (image .entry)) «one_is_zero» directory d) (tableAt (now (image .entry)) «one_is_zero» redundant d)) n ⌝ }
+fn directories_differ(image: &[u8], h: Header, grains: u64, n: u64) -> bool
+    requires { ⌜ (512 * h .directory + 4 * n ≤ length (now image)) × (512 * h .redundant + 4 * n ≤ length (now image)) ⌝ }
+    requires { ⌜ ((d : ℕ) → d < n → d * h .«entries_per_table» < grains) ⌝ }
+    requires { ⌜ ((d t : ℕ) → d < n → meaningAt (now image) (h .«one_is_zero») (h .directory) d ≡ Sector t → 512 * t
+        + 4 * h .«entries_per_table» ≤ length (now image)) ⌝ }
+    requires { ⌜ ((d u : ℕ) → d < n → meaningAt (now image) (h .«one_is_zero») (h .redundant) d ≡ Sector u → 512 * u
+        + 4 * h .«entries_per_table» ≤ length (now image)) ⌝ }
+    ensures { λ r.
+        ⌜ r ≡ anyBelow (λ d. copyDiffers (now (image .entry))
+        (min (h .«entries_per_table») (grains - d * h .«entries_per_table»))
+        (meaningAt (now (image .entry)) (h .«one_is_zero») (h .directory) d)
+        (meaningAt (now (image .entry)) (h .«one_is_zero») (h .redundant) d)) n ⌝ }
 {
     let mut d: u64 = 0;
     while d < n {
-        if entry_differs(
-            image,
-            one_is_zero,
-            directory,
-            redundant,
-            per_table,
-            grains,
-            d,
-        ) {
+        if entry_differs(image, h, grains, d) {
             return true;
         }
         d += 1;
@@ -128,14 +117,6 @@ pub fn copies_differ(image: &[u8], h: Header) -> bool
         return false;
     }
     let n = directory_entries(h.capacity, h.entries_per_table, h.grain_size);
-    let grains = base::ceil_div(h.capacity, h.grain_size);
-    directories_differ(
-        image,
-        h.one_is_zero,
-        h.directory,
-        h.redundant,
-        h.entries_per_table,
-        grains,
-        n,
-    )
+    let grains = grains_of(h.capacity, h.grain_size);
+    directories_differ(image, h, grains, n)
 }

@@ -14,7 +14,6 @@ use format::Refusal;
 pub mod copies;
 pub mod grains;
 pub mod places;
-mod used;
 
 // 12, the last of them.
 fn check_apart(image: &[u8], h: Header) -> CheckAnswer

@@ -4,16 +4,17 @@ ghost use mathlib.Core.Bool.{false};
 ghost use Prim.Native.Nat.{_+_, _*_, _≤_};
 ghost use lib.ListN.{length};
 ghost use Rattle.format.specs.Geometry.{fileSectors};
-ghost use Rattle.format.specs.Entries.{tableAt};
+ghost use Rattle.format.specs.Entries.{meaningAt};
 ghost use Rattle.format.specs.Areas.{named, tableAreas, runsPast};
-ghost use Rattle.format.specs.Check.{descriptorMisplaced, directoryMisplaced, redundantMisplaced, primaryMisplaced, copiesMisplaced, misplaced};
+ghost use Rattle.format.specs.Check.{descriptorMisplaced, directoryMisplaced, redundantDirectoryMisplaced};
+ghost use Rattle.format.specs.Check.{primaryTablesMisplaced, redundantTablesMisplaced, misplaced};
 ghost use Rattle.header.specs.Sized.{Sound};
 use format::Entry;
 use format::Header;
 use header::sizes::directory_entries;
 use lookup::entries::directory_misplaced;
 use lookup::entries::file_sectors;
-use lookup::entries::table_at;
+use lookup::entries::meaning_at;
 use lookup::entries::table_past;
 
 // One descriptor number zero and one not, or the descriptor past F.
@@ -26,8 +27,8 @@ fn descriptor_misplaced(image: &[u8], h: Header) -> bool
 }
 
 // The redundant directory past F, if there is one.
-fn redundant_misplaced(image: &[u8], h: Header) -> bool
-    ensures { λ r. ⌜ r ≡ redundantMisplaced (fileSectors (now (image .entry))) h ⌝ }
+fn redundant_directory_misplaced(image: &[u8], h: Header) -> bool
+    ensures { λ r. ⌜ r ≡ redundantDirectoryMisplaced (fileSectors (now (image .entry))) h ⌝ }
 {
     if h.redundant == 0 {
         return false;
@@ -49,15 +50,19 @@ fn named_past(image: &[u8], sectors: u64, entry: Entry) -> bool
 // The same of entry d of the directory at a sector.
 fn entry_past(image: &[u8], one_is_zero: bool, sectors: u64, directory: u64, d: u64) -> bool
     requires { ⌜ 512 * directory + 4 * d + 4 ≤ length (now image) ⌝ }
-    ensures { λ r. ⌜ r ≡ runsPast (fileSectors (now (image .entry))) (named (λ e. sectors) (tableAt (now (image .entry)) «one_is_zero» directory d)) ⌝ }
+    ensures { λ r.
+        ⌜ r ≡ runsPast (fileSectors (now (image .entry)))
+        (named (λ e. sectors) (meaningAt (now (image .entry)) «one_is_zero» directory d)) ⌝ }
 {
-    named_past(image, sectors, table_at(image, one_is_zero, directory, d))
+    named_past(image, sectors, meaning_at(image, one_is_zero, directory, d))
 }
 
 // Whether a table that the first n entries of the directory at a sector name runs past F.
 fn tables_past(image: &[u8], one_is_zero: bool, sectors: u64, directory: u64, n: u64) -> bool
     requires { ⌜ 512 * directory + 4 * n ≤ length (now image) ⌝ }
-    ensures { λ r. ⌜ r ≡ runsPast (fileSectors (now (image .entry))) (tableAreas (now (image .entry)) «one_is_zero» sectors directory n) ⌝ }
+    ensures { λ r.
+        ⌜ r ≡ runsPast (fileSectors (now (image .entry)))
+        (tableAreas (now (image .entry)) «one_is_zero» sectors directory n) ⌝ }
 {
     let mut d: u64 = 0;
     while d < n {
@@ -70,18 +75,18 @@ fn tables_past(image: &[u8], one_is_zero: bool, sectors: u64, directory: u64, n:
 }
 
 // The tables of the primary directory, which lies in the file.
-fn primary_misplaced(image: &[u8], h: Header) -> bool
+fn primary_tables_misplaced(image: &[u8], h: Header) -> bool
     requires { ⌜ Sound h × (directoryMisplaced (fileSectors (now image)) h ≡ false) ⌝ }
-    ensures { λ r. ⌜ r ≡ primaryMisplaced (now (image .entry)) h ⌝ }
+    ensures { λ r. ⌜ r ≡ primaryTablesMisplaced (now (image .entry)) h ⌝ }
 {
     let n = directory_entries(h.capacity, h.entries_per_table, h.grain_size);
     tables_past(image, h.one_is_zero, h.table_sectors, h.directory, n)
 }
 
 // The tables of the redundant directory, if there is one.
-fn copies_misplaced(image: &[u8], h: Header) -> bool
-    requires { ⌜ Sound h × (redundantMisplaced (fileSectors (now image)) h ≡ false) ⌝ }
-    ensures { λ r. ⌜ r ≡ copiesMisplaced (now (image .entry)) h ⌝ }
+fn redundant_tables_misplaced(image: &[u8], h: Header) -> bool
+    requires { ⌜ Sound h × (redundantDirectoryMisplaced (fileSectors (now image)) h ≡ false) ⌝ }
+    ensures { λ r. ⌜ r ≡ redundantTablesMisplaced (now (image .entry)) h ⌝ }
 {
     if h.redundant == 0 {
         return false;
@@ -101,11 +106,11 @@ pub fn misplaced(image: &[u8], h: Header) -> bool
     if directory_misplaced(image, h) {
         return true;
     }
-    if redundant_misplaced(image, h) {
+    if redundant_directory_misplaced(image, h) {
         return true;
     }
-    if primary_misplaced(image, h) {
+    if primary_tables_misplaced(image, h) {
         return true;
     }
-    copies_misplaced(image, h)
+    redundant_tables_misplaced(image, h)
 }

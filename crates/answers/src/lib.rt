@@ -1,6 +1,6 @@
 // Answers in document 01's numbers, for whoever prints them or hands them on.
 ghost use mathlib.Core.Path.{_≡_};
-ghost use Rattle.format.specs.Answers.{number, place, head, verdict, served, unserved, located, chained, written};
+ghost use Rattle.format.specs.Answers.{number, place, headerNumbers, verdict, served, unserved, located, chained, written};
 use format::ChainAnswer;
 use format::CheckAnswer;
 use format::CollapseAnswer;
@@ -13,56 +13,36 @@ use format::Source;
 use format::Verdict;
 use format::Written;
 
-pub fn number_of(refusal: Refusal) -> u64
-    ensures { λ r. ⌜ r ≡ number refusal ⌝ }
-{
-    match refusal {
-        Refusal::TooShort => 1,
-        Refusal::Magic => 2,
-        Refusal::Version => 3,
-        Refusal::Newline => 4,
-        Refusal::Flags => 5,
-        Refusal::Sizes => 6,
-        Refusal::Footer => 7,
-        Refusal::Misplaced => 8,
-        Refusal::GrainPast(_) => 9,
-        Refusal::Marker(_) => 10,
-        Refusal::CopiesDiffer => 11,
-        Refusal::SharedSector => 12,
-        Refusal::SectorPast => 20,
-        Refusal::TooLittleRoom => 21,
-        Refusal::LayersDiffer => 22,
-        Refusal::NotCollapsible => 23,
-        Refusal::LayerLengths => 24,
-    }
-}
+// A refusal's number and place.
+struct Numbers(u64, u64);
 
-pub fn place_of(refusal: Refusal) -> u64
-    ensures { λ r. ⌜ r ≡ place refusal ⌝ }
+fn numbers_of(refusal: Refusal) -> Numbers
+    ensures { λ r. ⌜ (r .0 ≡ number refusal) × (r .1 ≡ place refusal) ⌝ }
 {
     match refusal {
-        Refusal::TooShort => 0,
-        Refusal::Magic => 0,
-        Refusal::Version => 0,
-        Refusal::Newline => 0,
-        Refusal::Flags => 0,
-        Refusal::Sizes => 0,
-        Refusal::Footer => 0,
-        Refusal::Misplaced => 0,
-        Refusal::GrainPast(g) => g,
-        Refusal::Marker(g) => g,
-        Refusal::CopiesDiffer => 0,
-        Refusal::SharedSector => 0,
-        Refusal::SectorPast => 0,
-        Refusal::TooLittleRoom => 0,
-        Refusal::LayersDiffer => 0,
-        Refusal::NotCollapsible => 0,
-        Refusal::LayerLengths => 0,
+        Refusal::TooShort => Numbers(1, 0),
+        Refusal::Magic => Numbers(2, 0),
+        Refusal::Version => Numbers(3, 0),
+        Refusal::Newline => Numbers(4, 0),
+        Refusal::Flags => Numbers(5, 0),
+        Refusal::Sizes => Numbers(6, 0),
+        Refusal::Footer => Numbers(7, 0),
+        Refusal::Misplaced => Numbers(8, 0),
+        Refusal::GrainPast(g) => Numbers(9, g),
+        Refusal::Marker(g) => Numbers(10, g),
+        Refusal::CopiesDiffer => Numbers(11, 0),
+        Refusal::SharedSector => Numbers(12, 0),
+        Refusal::SectorPast => Numbers(20, 0),
+        Refusal::TooLittleRoom => Numbers(21, 0),
+        Refusal::LayersDiffer => Numbers(22, 0),
+        Refusal::NotCollapsible => Numbers(23, 0),
+        Refusal::LayerLengths => Numbers(24, 0),
     }
 }
 
 fn answer(layer: u64, kind: u64, sector: u64, size: u64, offset: u64) -> Located
-    ensures { λ r. ⌜ r ≡ record { number = 0; layer = layer; place = 0; kind = kind; sector = sector; size = size; offset = offset } ⌝ }
+    ensures { λ r.
+        ⌜ r ≡ record { number = 0; layer = layer; place = 0; kind = kind; sector = sector; size = size; offset = offset } ⌝ }
 {
     Located {
         number: 0,
@@ -93,10 +73,11 @@ fn served_of(layer: u64, source: Source) -> Located
 fn unserved_of(layer: u64, refusal: Refusal) -> Located
     ensures { λ r. ⌜ r ≡ unserved layer refusal ⌝ }
 {
+    let told = numbers_of(refusal);
     Located {
-        number: number_of(refusal),
+        number: told.0,
         layer,
-        place: place_of(refusal),
+        place: told.1,
         kind: 0,
         sector: 0,
         size: 0,
@@ -138,17 +119,20 @@ pub fn verdict_of(a: CheckAnswer) -> Verdict
             capacity,
             grain_size,
         },
-        CheckAnswer::Refused(refusal) => Verdict {
-            number: number_of(refusal),
-            place: place_of(refusal),
-            capacity: 0,
-            grain_size: 0,
-        },
+        CheckAnswer::Refused(refusal) => {
+            let told = numbers_of(refusal);
+            Verdict {
+                number: told.0,
+                place: told.1,
+                capacity: 0,
+                grain_size: 0,
+            }
+        }
     }
 }
 
 pub fn head_of(a: HeaderAnswer) -> Head
-    ensures { λ r. ⌜ r ≡ head a ⌝ }
+    ensures { λ r. ⌜ r ≡ headerNumbers a ⌝ }
 {
     match a {
         HeaderAnswer::Known(h) => Head {
@@ -159,14 +143,17 @@ pub fn head_of(a: HeaderAnswer) -> Head
             descriptor: h.descriptor,
             descriptor_sectors: h.descriptor_sectors,
         },
-        HeaderAnswer::Refused(refusal) => Head {
-            number: number_of(refusal),
-            place: place_of(refusal),
-            capacity: 0,
-            grain_size: 0,
-            descriptor: 0,
-            descriptor_sectors: 0,
-        },
+        HeaderAnswer::Refused(refusal) => {
+            let told = numbers_of(refusal);
+            Head {
+                number: told.0,
+                place: told.1,
+                capacity: 0,
+                grain_size: 0,
+                descriptor: 0,
+                descriptor_sectors: 0,
+            }
+        }
     }
 }
 
@@ -179,10 +166,13 @@ pub fn written_of(a: CollapseAnswer) -> Written
             place: 0,
             length,
         },
-        CollapseAnswer::Refused(refusal) => Written {
-            number: number_of(refusal),
-            place: place_of(refusal),
-            length: 0,
-        },
+        CollapseAnswer::Refused(refusal) => {
+            let told = numbers_of(refusal);
+            Written {
+                number: told.0,
+                place: told.1,
+                length: 0,
+            }
+        }
     }
 }

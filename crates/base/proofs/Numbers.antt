@@ -3,7 +3,8 @@ use Prim.Native.Nat.{ℕ, zero, suc, _+_, _*_, _/_, _%_, _^_, _≤_, _<_}
 use mathlib.Core.Path.{_≡_, refl, sym, ap, _∙_}
 use mathlib.Core.List.{List, _++_}
 use native.Mathlib.Omega.{arith}
-use native.Mathlib.Nat.{add-zero, zero-add, suc-add, add-assoc, one-mul, mul-add, mul-assoc, pow-zero, pow-suc, pow-succ', div-one, div-div-eq-div-mul, mod-one, mod-eq-of-lt, one-le-pow}
+use native.Mathlib.Nat.{add-zero, zero-add, suc-add, add-assoc, one-mul, mul-add, mul-assoc, pow-zero, pow-suc, pow-succ'}
+use native.Mathlib.Nat.{div-one, div-div-eq-div-mul, mod-one, mod-eq-of-lt, one-le-pow}
 use native.Mathlib.Numerals.{one-add, add-one}
 use lib.Arith.{mod-mul}
 use lib.Dec.{lit<}

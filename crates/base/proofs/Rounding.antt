@@ -4,7 +4,8 @@ use mathlib.Core.Path.{_≡_}
 use mathlib.Core.Bool.{true, or-true}
 use mathlib.Core.Logic.{⊎-elim}
 use native.Mathlib.Omega.{arith}
-use native.Mathlib.Nat.{le-div-iff-mul-le, div-lt-iff-lt-mul, div-mul-le-self, lt-div-mul-add, suc-mul, add-mul, one-mul, mul-one, mul-assoc, mul-pos, mul-le-mul, le-refl}
+use native.Mathlib.Nat.{le-div-iff-mul-le, div-lt-iff-lt-mul, div-mul-le-self, lt-div-mul-add, suc-mul, add-mul, one-mul}
+use native.Mathlib.Nat.{mul-one, mul-assoc, mul-pos, mul-le-mul, le-refl}
 use lib.Pow.{pow-pos, pow-mono}
 use borrow.Author.Tests.{eqb-true, eq-eqb}
 use Rattle.base.specs.Rounding.{ceil, powerUpTo}
@@ -46,7 +47,8 @@ pub power-is : (k n : ℕ) → powerUpTo k n ≡ true → (j : ℕ) × (j ≤ k)
 unfolding powerUpTo
 power-is zero n e = (0, le-refl 0, eqb-true n 1 e)
 power-is (suc k) n e =
-    ⊎-elim (λ y. (suc k, le-refl (suc k), eqb-true n _ y)) (λ y. let r = power-is k n y in (r .0, omega (arith, r .1), r .2)) (or-yes _ _ e)
+    ⊎-elim (λ y. (suc k, le-refl (suc k), eqb-true n _ y)) (λ y. let r = power-is k n y in (r .0, omega (arith, r .1), r .2))
+    (or-yes _ _ e)
 
 pub is-power : (k n j : ℕ) → j ≤ k → n ≡ 2 ^ j → powerUpTo k n ≡ true
 unfolding powerUpTo

@@ -8,7 +8,7 @@ use native.Mathlib.Nat.{suc-mul, zero-mul, mul-one, add-zero}
 use lib.ListN.{length, getD, length-append}
 use Rattle.base.proofs.Steps.{lt-or-ge}
 use Rattle.base.specs.Numbers.{leBytes}
-use Rattle.base.specs.Rows.{rows, firstOf, join, tabulate, entries}
+use Rattle.base.specs.Rows.{rows, firstOf, allOf, tabulate, entryBytes}
 use Rattle.base.proofs.Stands.{Stands, stands-left, stands-right, stands-at}
 use Rattle.base.proofs.Numbers.{le-length}
 
@@ -32,11 +32,13 @@ rows-at (suc n) f i b =
     (λ g. let e : n ≡ i = omega arith in rw (← e) (stands-right (rows n f) (f n))) (lt-or-ge i n)
 
 -- rows of one length: row i stands at i times it
-pub row-at : (n w : ℕ) (f : ℕ → List ℕ) → ((i : ℕ) → i < n → length (f i) ≡ w) → (i : ℕ) → i < n → Stands (rows n f) (i * w) (f i)
+pub row-at : (n w : ℕ) (f : ℕ → List ℕ) → ((i : ℕ) → i < n → length (f i) ≡ w) → (i : ℕ) → i < n
+    → Stands (rows n f) (i * w) (f i)
 row-at n w f e i b = stands-at (i * w) (rows-length i w f (λ j l. e j (omega arith))) (rows-at n f i b)
 
 -- part i of a list of parts stands after those before it
-pub part-at : (parts : List (List ℕ)) (i : ℕ) → i < length parts → Stands (join parts) (length (firstOf parts i)) (getD parts i [])
+pub part-at : (parts : List (List ℕ)) (i : ℕ) → i < length parts
+    → Stands (allOf parts) (length (firstOf parts i)) (getD parts i [])
 part-at parts i b = rows-at (length parts) (λ k. getD parts k []) i b
 
 pub tabulate-length : (n : ℕ) (f : ℕ → ℕ) → length (tabulate n f) ≡ n
@@ -45,9 +47,9 @@ tabulate-length n f = rows-length n 1 _ (λ i b. refl) ∙ mul-one n
 pub tabulate-at : (n : ℕ) (f : ℕ → ℕ) (i : ℕ) → i < n → getD (tabulate n f) i 0 ≡ f i
 tabulate-at n f i b = simp (mul-one, add-zero) at (row-at n 1 (λ k. f k ∷ []) (λ k l. refl) i b .same 0 (omega arith))
 
-pub entries-length : (n : ℕ) (e : ℕ → ℕ) → length (entries n e) ≡ n * 4
+pub entries-length : (n : ℕ) (e : ℕ → ℕ) → length (entryBytes n e) ≡ n * 4
 entries-length n e = rows-length n 4 _ (λ i b. le-length 4 (e i))
 
 -- entry k stands at 4 * k
-pub entry-at : (n : ℕ) (e : ℕ → ℕ) (k : ℕ) → k < n → Stands (entries n e) (k * 4) (leBytes 4 (e k))
+pub entry-at : (n : ℕ) (e : ℕ → ℕ) (k : ℕ) → k < n → Stands (entryBytes n e) (k * 4) (leBytes 4 (e k))
 entry-at n e k b = row-at n 4 _ (λ i l. le-length 4 (e i)) k b

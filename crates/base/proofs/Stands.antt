@@ -68,7 +68,8 @@ read-bytes {s} {at} {w} h =
     let l : i < length w = omega (arith, simp (length-take, length-drop) at b) in
     getD-take (length w) (drop at s) i 0 l ∙ getD-drop at s i 0 ∙ h .same i l)
 
-pub bytes-stand : (s : List ℕ) (at : ℕ) (w : List ℕ) → at + length w ≤ length s → take (length w) (drop at s) ≡ w → Stands s at w
+pub bytes-stand : (s : List ℕ) (at : ℕ) (w : List ℕ) → at + length w ≤ length s → take (length w) (drop at s) ≡ w
+    → Stands s at w
 bytes-stand s at w h e =
     record {
       inside = h;

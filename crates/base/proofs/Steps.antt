@@ -1,10 +1,9 @@
--- What a test in the code says of a `pick` in a contract: `search steps` closes a `returns` whose contract is a chain of `pick`.
--- A predicate's call gives r ≡ b, its branch r ≡ true or r ≡ false; a comparison gives the fact on the numbers.
+-- What a test in the code says of a `pick` in a contract: `search steps` closes a `returns` whose contract is a chain of
+-- `pick`. A predicate's call gives r ≡ b, its branch r ≡ true or r ≡ false; a comparison gives the fact on the numbers.
 use Prim.Native.Nat.{ℕ, _<_, _≤_}
 use mathlib.Core.Path.{_≡_, refl, sym, _∙_}
 use mathlib.Core.Bool.{Bool, true, false, not, _&&_, _||_, true≢false, false≢true}
 use mathlib.Core.Logic.{_⊎_, inl, inr, ⊎-elim}
-use native.Mathlib.Omega.{arith}
 use lib.Dec.{ltb, leb, eqb}
 use borrow.Author.Tests.{ltb-true, ltb-false, lt-ltb, le-ltb, le-leb, lt-leb, eq-eqb, ne-eqb}
 use Rattle.base.specs.Pick.{pick}
@@ -53,6 +52,10 @@ pub and-yes : (a b : Bool) → (a && b) ≡ true → (a ≡ true) × (b ≡ true
 and-yes true b e = (refl, e)
 and-yes false b e = absurd (false≢true e)
 
+pub and-both : (a b c : Bool) → (a ≡ true → b ≡ c) → (a && b) ≡ (a && c)
+and-both true b c f = f refl
+and-both false b c f = refl
+
 pub not-no : (b : Bool) → not b ≡ false → b ≡ true
 not-no true e = refl
 not-no false e = absurd (true≢false e)
@@ -84,8 +87,9 @@ unfolding pick
 cond-all P true x y f g = f refl
 cond-all P false x y f g = g refl
 
--- no number: the test failed, and there is none after it
-pub cond-zero : (b : Bool) (n y : ℕ) → 0 < n → pick b n y ≡ 0 → (b ≡ false) × (y ≡ 0)
+-- two chains over the same tests
+pub pick-both : {A : Type 0} (P : A → A → Type 0) (b : Bool) (x y v w : A) → (b ≡ true → P x v) → (b ≡ false → P y w)
+    → P (pick b x y) (pick b v w)
 unfolding pick
-cond-zero true n y h e = absurd (omega arith)
-cond-zero false n y h e = (refl, e)
+pick-both P true x y v w f g = f refl
+pick-both P false x y v w f g = g refl

@@ -10,7 +10,7 @@ use lib.Dec.{eqb}
 use lib.ListN.{getD, length, take, drop, drop-of-length-le, length-take, length-drop}
 use lib.Seq.{drop-cons}
 use borrow.Author.Tests.{eqb-true, eq-eqb, ne-eqb}
-use Rattle.base.specs.Strings.{sameAt, lower, sameWord}
+use Rattle.base.specs.Strings.{sameAt, smallLetter, sameWord}
 use Rattle.base.proofs.Steps.{and-yes}
 use Rattle.base.proofs.Stands.{Stands, head-of, tail-of, stands-cons, read-bytes, bytes-stand}
 
@@ -19,14 +19,16 @@ module _ (s : List ℕ) (at : ℕ) (w : List ℕ) (i : ℕ) where
   abbrev pub LeftAt : Type 0
   LeftAt = sameAt s at w ≡ sameAt s (at + i) (drop i w)
 
-  at-step : i < length w → sameAt s (at + i) (drop i w) ≡ (eqb (getD s (at + i) 0) (getD w i 0) && sameAt s (at + (i + 1)) (drop (i + 1) w))
+  at-step : i < length w → sameAt s (at + i) (drop i w)
+      ≡ (eqb (getD s (at + i) 0) (getD w i 0) && sameAt s (at + (i + 1)) (drop (i + 1) w))
   unfolding sameAt
   at-step h = simp (drop-cons w i 0 h, add-one, add-suc)
 
   pub at-no : LeftAt → i < length w → (getD s (at + i) 0 ≡ getD w i 0 → ⊥) → false ≡ sameAt s at w
   at-no l h n = rw (l, at-step h, ne-eqb _ _ n)
 
-  pub at-more : LeftAt → i < length w → getD s (at + i) 0 ≡ getD w i 0 → sameAt s at w ≡ sameAt s (at + (i + 1)) (drop (i + 1) w)
+  pub at-more : LeftAt → i < length w → getD s (at + i) 0 ≡ getD w i 0 → sameAt s at w
+      ≡ sameAt s (at + (i + 1)) (drop (i + 1) w)
   at-more l h e = l ∙ rw (at-step h, eq-eqb _ _ e)
 
   pub at-all : LeftAt → length w ≤ i → true ≡ sameAt s at w
@@ -40,11 +42,13 @@ module _ (w v : List ℕ) (i : ℕ) where
   abbrev pub LeftWord : Type 0
   LeftWord = sameWord w v ≡ sameWord (drop i w) (drop i v)
 
-  word-step : i < length w → i < length v → sameWord (drop i w) (drop i v) ≡ (eqb (lower (getD w i 0)) (getD v i 0) && sameWord (drop (i + 1) w) (drop (i + 1) v))
+  word-step : i < length w → i < length v → sameWord (drop i w) (drop i v)
+      ≡ (eqb (smallLetter (getD w i 0)) (getD v i 0) && sameWord (drop (i + 1) w) (drop (i + 1) v))
   unfolding sameWord
   word-step h k = simp (drop-cons w i 0 h, drop-cons v i 0 k, add-one)
 
-  module _ {r : Bool} (l : LeftWord) (h : i < length w) (q : length w ≡ length v) (e : r ≡ eqb (lower (getD w i 0)) (getD v i 0)) where
+  module _ {r : Bool} (l : LeftWord) (h : i < length w) (q : length w ≡ length v)
+      (e : r ≡ eqb (smallLetter (getD w i 0)) (getD v i 0)) where
     pub word-no : r ≡ false → false ≡ sameWord w v
     word-no f = rw (l, word-step h (rw (← q) h), ← e, f)
 
@@ -77,7 +81,8 @@ same-stands s at [] h e = record { inside = h; same = λ i l. absurd (omega arit
 same-stands s at (x ∷ w) h e =
     let both = and-yes _ _ e in stands-cons (eqb-true _ _ (both .0)) (same-stands s (at + 1) w (omega arith) (both .1))
 
-pub same-bytes : (s : List ℕ) (at : ℕ) (w : List ℕ) → at + length w ≤ length s → sameAt s at w ≡ true → take (length w) (drop at s) ≡ w
+pub same-bytes : (s : List ℕ) (at : ℕ) (w : List ℕ) → at + length w ≤ length s → sameAt s at w ≡ true
+    → take (length w) (drop at s) ≡ w
 same-bytes s at w h e = read-bytes (same-stands s at w h e)
 
 pub bytes-same : (s : List ℕ) (at : ℕ) (w : List ℕ) → take (length w) (drop at s) ≡ w → sameAt s at w ≡ true

@@ -3,7 +3,7 @@ use Prim.Native.Nat.{ℕ, zero, suc, _+_, _-_, _/_, _^_}
 use mathlib.Core.Bool.{Bool, _||_}
 use lib.Dec.{eqb}
 
--- a / b, rounded up
+-- a / b, rounded up, for b that is not 0: sizes are judged (6) before anything is divided by them
 abbrev pub ceil : ℕ → ℕ → ℕ
 ceil a b = (a + b - 1) / b
 

@@ -13,13 +13,13 @@ rows (suc n) f = rows n f ++ f n
 abbrev pub firstOf : List (List ℕ) → ℕ → List ℕ
 firstOf parts i = rows i (λ k. getD parts k [])
 
-abbrev pub join : List (List ℕ) → List ℕ
-join parts = firstOf parts (length parts)
+abbrev pub allOf : List (List ℕ) → List ℕ
+allOf parts = firstOf parts (length parts)
 
 -- the n numbers f 0, f 1, ..
 abbrev pub tabulate : ℕ → (ℕ → ℕ) → List ℕ
 tabulate n f = rows n (λ i. f i ∷ [])
 
 -- n entries of four bytes, entry k of them e k
-abbrev pub entries : ℕ → (ℕ → ℕ) → List ℕ
-entries n e = rows n (λ k. leBytes 4 (e k))
+abbrev pub entryBytes : ℕ → (ℕ → ℕ) → List ℕ
+entryBytes n e = rows n (λ k. leBytes 4 (e k))

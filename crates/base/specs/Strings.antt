@@ -14,15 +14,15 @@ sameAt s at [] = true
 sameAt s at (x ∷ w) = eqb (getD s at 0) x && sameAt s (at + 1) w
 
 -- a byte, as a small letter if it is a capital one
-abbrev pub lower : ℕ → ℕ
-lower x = pick (ltb x 65) x (pick (ltb x 91) (x + 32) x)
+abbrev pub smallLetter : ℕ → ℕ
+smallLetter x = pick (ltb x 65) x (pick (ltb x 91) (x + 32) x)
 
 -- w is the fixed word v, written in small letters, without regard to ASCII case
 unfoldable pub sameWord : List ℕ → List ℕ → Bool
 sameWord [] [] = true
 sameWord [] (y ∷ v) = false
 sameWord (x ∷ w) [] = false
-sameWord (x ∷ w) (y ∷ v) = eqb (lower x) y && sameWord w v
+sameWord (x ∷ w) (y ∷ v) = eqb (smallLetter x) y && sameWord w v
 
 -- the bytes of a text that is written out
 abbrev pub ascii : String → List ℕ

@@ -5,7 +5,7 @@ ghost use lib.Dec.{ltb, eqb};
 ghost use lib.ListN.{length, take};
 ghost use Rattle.base.specs.Rounding.{ceil};
 ghost use Rattle.base.specs.Numbers.{leAt, leBytes};
-ghost use Rattle.base.specs.Strings.{sameAt, lower, sameWord};
+ghost use Rattle.base.specs.Strings.{sameAt, smallLetter, sameWord};
 ghost use Rattle.base.specs.Bytes.{over, zeros};
 
 // A byte as a wide number, which keeps the byte's bound.
@@ -52,7 +52,7 @@ pub fn same_at(s: &[u8], at: usize, w: &[u8]) -> bool
 }
 
 fn lower_of(x: u8) -> u8
-    ensures { λ r. ⌜ r ≡ lower x ⌝ }
+    ensures { λ r. ⌜ r ≡ smallLetter x ⌝ }
 {
     if x < 65 {
         return x;
@@ -64,7 +64,7 @@ fn lower_of(x: u8) -> u8
 }
 
 fn alike(x: u8, y: u8) -> bool
-    ensures { λ r. ⌜ r ≡ eqb (lower x) y ⌝ }
+    ensures { λ r. ⌜ r ≡ eqb (smallLetter x) y ⌝ }
 {
     lower_of(x) == y
 }

@@ -1,32 +1,58 @@
-// The calls on one image.
+// The calls on one image, and on a chain.
+ghost use Prim.Native.Nat.{_≤_};
+ghost use lib.ListN.{length};
+use format::Head;
+use format::Verdict;
 
-// The lookup, then how many bytes the grain reader hands back, and their sum.
-fn look(image: &[u8], sector: u64) {
-    programs::put_word(b"lookup ");
-    programs::put_located(answers::located_of(lookup::lookup(image, sector)));
-    programs::end_line();
-    programs::put_word(b"read ");
+// Number, place, capacity, grain size.
+fn put_verdict(v: Verdict) {
+    programs::start(b"check ");
+    programs::put(v.number);
+    programs::put(v.place);
+    programs::put(v.capacity);
+    programs::put(v.grain_size);
+    programs::end();
+}
+
+// Number, place, capacity, grain size, descriptor's sector and sectors.
+fn put_head(h: Head) {
+    programs::start(b"header ");
+    programs::put(h.number);
+    programs::put(h.place);
+    programs::put(h.capacity);
+    programs::put(h.grain_size);
+    programs::put(h.descriptor);
+    programs::put(h.descriptor_sectors);
+    programs::end();
+}
+
+pub fn image(image: &[u8]) {
+    put_verdict(answers::verdict_of(accept::check(image)));
+    put_head(answers::head_of(header::judge(image)));
+}
+
+// The lookup, then how many bytes the grain reader hands back, and their digest.
+pub fn look(image: &[u8], sector: u64) {
+    programs::put_located(
+        b"lookup ",
+        answers::located_of(lookup::lookup(image, sector)),
+    );
+    programs::start(b"read ");
     let part = lookup::read(image, sector);
     programs::put(part.len() as u64);
-    programs::put(crate::sum::adler(part));
-    programs::end_line();
+    programs::put(programs::digest(part));
+    programs::end();
 }
 
-fn look_all(image: &[u8], sectors: &[u8]) {
-    let n = sectors.len() / 8;
-    let mut i = 0;
-    while i < n {
-        look(image, base::u64_at(sectors, 8 * i));
-        i += 1;
-    }
-}
-
-pub fn image(image: &[u8], sectors: &[u8]) {
-    programs::put_word(b"check ");
-    programs::put_verdict(answers::verdict_of(accept::check(image)));
-    programs::end_line();
-    programs::put_word(b"header ");
-    programs::put_head(answers::head_of(header::judge(image)));
-    programs::end_line();
-    look_all(image, sectors);
+// The chain lookup in at most 17 layers, which is one too many.
+pub fn look_down(layers: &[u8], lengths: &[u8], sector: u64)
+    requires { ⌜ length (now lengths) ≤ 136 ⌝ }
+{
+    let numbers = programs::numbers_of(lengths);
+    let n = lengths.len() / 8;
+    let all: &[u64] = &numbers;
+    programs::put_located(
+        b"chain ",
+        answers::chained_of(chain::chain(layers, &all[0..n], sector)),
+    );
 }

@@ -1,112 +1,117 @@
 // A program that runs the library on the cases that standard input holds, and prints a line for each call: its name and the
 // numbers of its answer.
 // A case is five u64, what is asked and the numbers of sectors, lengths, bytes and room; then the sectors and the lengths, a
-// u64 each; then the bytes. What is asked: 0 the calls on one image; 1 the chain lookup; 2 the collapse of two images, the first
-// as long as the first length says; 3 a text's extents; 4 the records, of 32 in the bytes, that hold the sectors. The room is
-// the output's length.
-ghost use mathlib.Core.Path.{_≡_};
-ghost use Prim.Native.Nat.{_+_, _≤_};
+// u64 each; then the bytes. What is asked: 0 the calls on one image; 1 the chain lookup; 2 the collapse of one to four layers;
+// 3 a text's extents, and which of them hold the sectors; 4 which of 32 records in the bytes hold the sectors; 5 the lookup and
+// the grain reader alone. The room is the output's length.
+ghost use Prim.Native.Nat.{_≤_, _<_};
 ghost use lib.ListN.{length};
 use libc::STDIN_FILENO;
 
-mod chains;
 mod images;
-mod sum;
+mod pairings;
 mod texts;
 mod writes;
 
-// How many bytes of a case follow its five numbers; none where they are too large to be a case.
-fn body_size(head: &[u8]) -> usize
-    requires { ⌜ 40 ≤ length (now head) ⌝ }
-{
-    let sectors = base::u64_at(head, 8);
-    let lengths = base::u64_at(head, 16);
-    let bytes = base::u64_at(head, 24);
-    if 4096 < sectors {
-        return 0;
-    }
-    if 17 < lengths {
-        return 0;
-    }
-    if 1048576 < bytes {
-        return 0;
-    }
-    (8 * sectors + 8 * lengths + bytes) as usize
-}
-
-fn ask(what: u64, sectors: &[u8], lengths: &[u8], bytes: &[u8], out: &mut [u8])
+// What is asked of a case once.
+fn ask(what: u64, lengths: &[u8], bytes: &[u8], out: &mut [u8])
     requires { ⌜ length (now lengths) ≤ 136 ⌝ }
 {
     if what == 0 {
-        images::image(bytes, sectors);
+        images::image(bytes);
         writes::normal(bytes, &mut *out);
         return;
     }
-    if what == 1 {
-        chains::chains(bytes, lengths, sectors);
-        return;
-    }
     if what == 2 {
-        writes::collapse(bytes, lengths, &mut *out);
+        pairings::pairings(bytes, lengths, &mut *out);
         return;
     }
     if what == 3 {
         texts::text(bytes);
+    }
+}
+
+// What is asked for one of its sectors.
+fn ask_sector(what: u64, lengths: &[u8], bytes: &[u8], sector: u64)
+    requires { ⌜ length (now lengths) ≤ 136 ⌝ }
+{
+    if what == 1 {
+        images::look_down(bytes, lengths, sector);
         return;
     }
-    texts::find(bytes, sectors);
+    if what == 3 {
+        texts::find_in_text(bytes, sector);
+        return;
+    }
+    if what == 4 {
+        texts::find(bytes, sector);
+        return;
+    }
+    images::look(bytes, sector);
+}
+
+fn ask_sectors(what: u64, lengths: &[u8], bytes: &[u8], sectors: &[u8])
+    requires { ⌜ length (now lengths) ≤ 136 ⌝ }
+{
+    let n = sectors.len() / 8;
+    let mut i = 0;
+    while i < n {
+        ask_sector(what, lengths, bytes, base::u64_at(sectors, 8 * i));
+        i += 1;
+    }
+}
+
+// Number k of a case, none where it is too large for one.
+fn number_at(head: &[u8], k: usize, most: u64) -> usize
+    requires { ⌜ (40 ≤ length (now head)) × (k < 5) ⌝ }
+    ensures { λ r. ⌜ r ≤ most ⌝ }
+{
+    let n = base::u64_at(head, 8 * k);
+    if most < n {
+        return 0;
+    }
+    n as usize
+}
+
+// What follows a case's five numbers.
+fn read_body(head: &[u8], body: &mut [u8])
+    requires { ⌜ (40 ≤ length (now head)) × (295048 ≤ length (now body)) ⌝ }
+{
+    let n = 8 * number_at(head, 1, 4096) + 8 * number_at(head, 2, 17) + number_at(head, 3, 262144);
+    io::read_full(STDIN_FILENO, &mut body[0..n]);
 }
 
 fn run_case(head: &[u8], body: &[u8], out: &mut [u8])
-    requires { ⌜ 40 ≤ length (now head) ⌝ }
+    requires { ⌜ (40 ≤ length (now head)) × (295048 ≤ length (now body)) × (65536 ≤ length (now out)) ⌝ }
 {
-    let sectors = base::u64_at(head, 8);
-    let lengths = base::u64_at(head, 16);
-    let room = base::u64_at(head, 32);
-    if 4096 < sectors {
-        return;
-    }
-    if 17 < lengths {
-        return;
-    }
-    if (out.len() as u64) < room {
-        return;
-    }
-    let first = 8 * sectors as usize;
-    let second = first + 8 * lengths as usize;
-    if body.len() < second {
-        return;
-    }
-    ask(
-        base::u64_at(head, 0),
-        &body[0..first],
-        &body[first..second],
-        &body[second..],
-        &mut out[0..room as usize],
-    );
+    let first = 8 * number_at(head, 1, 4096);
+    let second = first + 8 * number_at(head, 2, 17);
+    let end = second + number_at(head, 3, 262144);
+    let room = number_at(head, 4, 65536);
+    let what = base::u64_at(head, 0);
+    let lengths = &body[first..second];
+    let bytes = &body[second..end];
+    ask(what, lengths, bytes, &mut out[0..room]);
+    ask_sectors(what, lengths, bytes, &body[0..first]);
 }
 
 // Whether there was a case.
 fn next_case(head: &mut [u8], body: &mut [u8], out: &mut [u8]) -> bool
-    requires { ⌜ 40 ≤ length (now head) ⌝ }
+    requires { ⌜ (40 ≤ length (now head)) × (295048 ≤ length (now body)) × (65536 ≤ length (now out)) ⌝ }
 {
     let got = io::read_full(STDIN_FILENO, &mut *head);
     if got < 40 {
         return false;
     }
-    let n = body_size(head);
-    if body.len() < n {
-        return false;
-    }
-    io::read_full(STDIN_FILENO, &mut body[0..n]);
-    run_case(head, &body[0..n], &mut *out);
+    read_body(head, &mut *body);
+    run_case(head, body, &mut *out);
     true
 }
 
 // At most 65,536 cases, so that it ends.
 fn main() {
     let mut head = [0u8; 40];
-    let mut body = [0u8; 262144];
+    let mut body = [0u8; 295048];
     let mut out = [0u8; 65536];
     let mut left: u64 = 65536;
     while 0 < left {

@@ -1,24 +1,69 @@
 // The descriptor's two calls.
 ghost use Prim.Native.Nat.{_+_, _≤_};
 ghost use lib.ListN.{length};
+use descriptor::Described;
 use descriptor::Extent;
+use descriptor::Found;
+use descriptor::Parsed;
 
-fn put_record(e: Extent) {
-    programs::put_word(b"record ");
-    programs::put_extent(e);
-    programs::end_line();
+// Number, place, extents, version, CID, parentCID, createType's place and length.
+fn put_described(a: Described) {
+    programs::start(b"descriptor ");
+    programs::put(a.number);
+    programs::put(a.place);
+    programs::put(a.extents);
+    programs::put(a.version);
+    programs::put(a.cid);
+    programs::put(a.parent_cid);
+    programs::put(a.type_at);
+    programs::put(a.type_length);
+    programs::end();
 }
 
-// The answer for a lent list of four records, and the four after it.
-pub fn text(text: &[u8]) {
-    let lent = lent::described(text, [programs::held(); 4]);
-    programs::put_word(b"descriptor ");
-    programs::put_described(lent.answer);
-    programs::end_line();
-    put_record(lent.list[0]);
-    put_record(lent.list[1]);
-    put_record(lent.list[2]);
-    put_record(lent.list[3]);
+// First sector, sectors, access, kind, the name's place and length, offset.
+fn put_record(e: Extent) {
+    programs::start(b"record ");
+    programs::put(e.first);
+    programs::put(e.sectors);
+    programs::put(e.access);
+    programs::put(e.kind);
+    programs::put(e.name_at);
+    programs::put(e.name_length);
+    programs::put(e.offset);
+    programs::end();
+}
+
+// Number, place, extent.
+fn put_found(f: Found) {
+    programs::start(b"find ");
+    programs::put(f.number);
+    programs::put(f.place);
+    programs::put(f.extent);
+    programs::end();
+}
+
+// What a lent record holds before a call: it shows which were not stored to.
+fn held() -> Extent {
+    Extent {
+        first: 9,
+        sectors: 9,
+        access: 9,
+        kind: 9,
+        name_at: 9,
+        name_length: 9,
+        offset: 9,
+    }
+}
+
+fn put_records(p: Parsed) {
+    let mut i = 0;
+    while i < 32 {
+        if p.count <= i {
+            return;
+        }
+        put_record(p.records[i]);
+        i += 1;
+    }
 }
 
 fn record_at(bytes: &[u8], at: usize) -> Extent
@@ -38,7 +83,7 @@ fn record_at(bytes: &[u8], at: usize) -> Extent
 fn records_of(bytes: &[u8]) -> [Extent; 32]
     requires { ⌜ 1792 ≤ length (now bytes) ⌝ }
 {
-    let mut records = [programs::held(); 32];
+    let mut records = [held(); 32];
     let mut i: usize = 0;
     while i < 32 {
         records[i] = record_at(bytes, 56 * i);
@@ -47,25 +92,30 @@ fn records_of(bytes: &[u8]) -> [Extent; 32]
     records
 }
 
-fn find_one(records: [Extent; 32], sector: u64) {
-    programs::put_word(b"find ");
-    programs::put_found(lent::found(records, sector));
-    programs::end_line();
-}
-
-fn find_all(records: [Extent; 32], sectors: &[u8]) {
-    let n = sectors.len() / 8;
-    let mut i = 0;
-    while i < n {
-        find_one(records, base::u64_at(sectors, 8 * i));
-        i += 1;
-    }
-}
-
 // The search in a list of 32 records.
-pub fn find(bytes: &[u8], sectors: &[u8]) {
+pub fn find(bytes: &[u8], sector: u64) {
     if bytes.len() < 1792 {
         return;
     }
-    find_all(records_of(bytes), sectors);
+    put_found(lent::found(records_of(bytes), sector));
+}
+
+// The answer for a lent list of four records, the four after it, and all records.
+pub fn text(text: &[u8]) {
+    let lent = lent::described(text, [held(); 4]);
+    put_described(lent.answer);
+    put_record(lent.list[0]);
+    put_record(lent.list[1]);
+    put_record(lent.list[2]);
+    put_record(lent.list[3]);
+    put_records(text::parse(text));
+}
+
+// The search in a text's records, if there are any: those past the last have no sectors.
+pub fn find_in_text(text: &[u8], sector: u64) {
+    let p = text::parse(text);
+    if 0 < p.count {
+        let records = p.records;
+        put_found(lent::found(records, sector));
+    }
 }

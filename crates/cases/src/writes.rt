@@ -11,32 +11,26 @@ fn fill(out: &mut [u8]) {
     }
 }
 
-// The answer, and the sum of the whole output.
+// Number, place, length, and the digest of the whole output.
 fn put_answer(a: CollapseAnswer, out: &[u8]) {
-    programs::put_written(answers::written_of(a));
-    programs::put(crate::sum::adler(out));
-    programs::end_line();
+    let w = answers::written_of(a);
+    programs::put(w.number);
+    programs::put(w.place);
+    programs::put(w.length);
+    programs::put(programs::digest(out));
+    programs::end();
 }
 
 pub fn normal(image: &[u8], out: &mut [u8]) {
-    programs::put_word(b"normal ");
+    programs::start(b"normal ");
     fill(&mut *out);
     let a = collapse::normal(image, &mut *out);
     put_answer(a, out);
 }
 
-// The lower image comes first, and is as long as the first of the lengths.
-pub fn collapse(images: &[u8], lengths: &[u8], out: &mut [u8]) {
-    if lengths.len() < 8 {
-        return;
-    }
-    let n = base::u64_at(lengths, 0);
-    if (images.len() as u64) < n {
-        return;
-    }
-    let n = n as usize;
-    programs::put_word(b"collapse ");
+pub fn collapse(lower: &[u8], upper: &[u8], out: &mut [u8]) {
+    programs::start(b"collapse ");
     fill(&mut *out);
-    let a = collapse::collapse(&images[0..n], &images[n..], &mut *out);
+    let a = collapse::collapse(lower, upper, &mut *out);
     put_answer(a, out);
 }

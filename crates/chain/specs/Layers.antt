@@ -4,14 +4,12 @@ use mathlib.Core.Path.{_≡_}
 use mathlib.Core.List.{List}
 use lib.ListN.{length, take}
 use Rattle.format.specs.Header.{judge}
-use Rattle.format.specs.Chain.{sum, layerAt}
+use Rattle.format.specs.Chain.{lengthsSum, layerAt}
 use Rattle.format.specs.declared.Header.{Header}
-use Rattle.format.specs.declared.Source.{Source}
 use Rattle.format.specs.declared.Source.the-variants.{Absent, Zero, Stored, Packed}
 use Rattle.format.specs.declared.HeaderAnswer.the-variants.{Known}
 use Rattle.format.specs.declared.LookupAnswer.{LookupAnswer}
 use Rattle.format.specs.declared.LookupAnswer.the-variants.{Found as foundIn, Refused as refusedIn}
-use Rattle.format.specs.declared.ChainAnswer.{ChainAnswer}
 use Rattle.format.specs.declared.ChainAnswer.the-variants.{Found, Refused}
 use Rattle.chain.specs.declared.Step.{Step}
 use Rattle.chain.specs.declared.Step.the-variants.{Below, Answer}
@@ -20,12 +18,12 @@ use Rattle.chain.specs.declared.Step.the-variants.{Below, Answer}
 pub record Laid (s lengths : List ℕ) : Type 0 where
   pub some : 1 ≤ length lengths
   pub few : length lengths ≤ 16
-  pub whole : sum lengths ≡ length s
+  pub whole : lengthsSum lengths ≡ length s
 
 -- the first k layers end at byte `end`
 pub record Ends (s lengths : List ℕ) (k end : ℕ) : Type 0 where
   pub few : k ≤ length lengths
-  pub there : end ≡ sum (take k lengths)
+  pub there : end ≡ lengthsSum (take k lengths)
   pub inside : end ≤ length s
 
 -- the headers of the layers from k on are known

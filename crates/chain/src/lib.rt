@@ -1,12 +1,12 @@
 // The chain lookup: layers end to end in one lent slice, base first, and a lent list of their lengths.
 ghost use mathlib.Core.Path.{_≡_};
-ghost use Prim.Native.Nat.{_+_, _≤_, _<_};
+ghost use Prim.Native.Nat.{_+_, _<_};
 ghost use lib.Dec.{eqb};
 ghost use lib.ListN.{length};
 ghost use Rattle.format.specs.Header.{headerOf, judge};
-ghost use Rattle.format.specs.Entries.{some};
-ghost use Rattle.format.specs.Source.{lookup};
-ghost use Rattle.format.specs.Chain.{sum, layerAt, lengthsBroken, headersDown, unlike, walkDown, walk, chain};
+ghost use Rattle.format.specs.Entries.{anyBelow};
+ghost use Rattle.format.specs.Source.{sectorLookup};
+ghost use Rattle.format.specs.Chain.{lengthsSum, layerAt, lengthsBroken, headersDown, unlike, walkDown, walk, chainLookup};
 ghost use Rattle.chain.specs.Layers.{Laid, Ends, HeadedFrom, stepOf};
 use format::ChainAnswer;
 use format::Header;
@@ -24,7 +24,7 @@ pub enum Step {
 
 // Whether the lengths add up to n: what is left of n cannot wrap, as their sum could.
 fn sum_is(lengths: &[u64], n: u64) -> bool
-    ensures { λ r. ⌜ r ≡ eqb (sum (now (lengths .entry))) n ⌝ }
+    ensures { λ r. ⌜ r ≡ eqb (lengthsSum (now (lengths .entry))) n ⌝ }
 {
     let mut left = n;
     let mut i = 0;
@@ -59,7 +59,7 @@ fn judged_layer(layers: &[u8], lengths: &[u64], k: usize, end: usize) -> HeaderA
 // The source of a sector in layer k: its slice begins in the middle of the chain.
 fn looked_layer(layers: &[u8], lengths: &[u64], k: usize, end: usize, sector: u64) -> LookupAnswer
     requires { ⌜ Ends (now layers) (now lengths) (k + 1) end ⌝ }
-    ensures { λ r. ⌜ r ≡ lookup (layerAt (now (layers .entry)) (now (lengths .entry)) k) sector ⌝ }
+    ensures { λ r. ⌜ r ≡ sectorLookup (layerAt (now (layers .entry)) (now (lengths .entry)) k) sector ⌝ }
 {
     let start = end - lengths[k] as usize;
     lookup::lookup(&layers[start..end], sector)
@@ -68,7 +68,9 @@ fn looked_layer(layers: &[u8], lengths: &[u64], k: usize, end: usize, sector: u6
 // Headers from the top down, then the walk.
 fn headers_down(layers: &[u8], lengths: &[u64], sector: u64) -> ChainAnswer
     requires { ⌜ Laid (now layers) (now lengths) ⌝ }
-    ensures { λ r. ⌜ r ≡ headersDown (now (layers .entry)) (now (lengths .entry)) (length (now (lengths .entry))) (walk (now (layers .entry)) (now (lengths .entry)) sector) ⌝ }
+    ensures { λ r.
+        ⌜ r ≡ headersDown (now (layers .entry)) (now (lengths .entry)) (length (now (lengths .entry)))
+        (walk (now (layers .entry)) (now (lengths .entry)) sector) ⌝ }
 {
     let mut end = layers.len();
     let mut k = lengths.len();
@@ -86,12 +88,6 @@ fn headers_down(layers: &[u8], lengths: &[u64], sector: u64) -> ChainAnswer
     walk(layers, lengths, sector)
 }
 
-fn unlike_of(a: Header, b: Header) -> bool
-    ensures { λ r. ⌜ r ≡ unlike a b ⌝ }
-{
-    !((a.capacity == b.capacity) & (a.grain_size == b.grain_size))
-}
-
 // Whether capacity or grain size of layer k is not that of the first layer's header.
 fn unlike_layer(layers: &[u8], lengths: &[u64], k: usize, end: usize, first: Header) -> bool
     requires { ⌜ Ends (now layers) (now lengths) (k + 1) end × HeadedFrom (now layers) (now lengths) 0 ⌝ }
@@ -99,7 +95,7 @@ fn unlike_layer(layers: &[u8], lengths: &[u64], k: usize, end: usize, first: Hea
 {
     let judged = judged_layer(layers, lengths, k, end);
     match judged {
-        HeaderAnswer::Known(h) => unlike_of(first, h),
+        HeaderAnswer::Known(h) => header::unlike(first, h),
         HeaderAnswer::Refused(_) => true,
     }
 }
@@ -107,7 +103,9 @@ fn unlike_layer(layers: &[u8], lengths: &[u64], k: usize, end: usize, first: Hea
 // Whether some layer's capacity or grain size is not that of the header `first`.
 fn some_unlike(layers: &[u8], lengths: &[u64], first: Header) -> bool
     requires { ⌜ Laid (now layers) (now lengths) × HeadedFrom (now layers) (now lengths) 0 ⌝ }
-    ensures { λ r. ⌜ r ≡ some (λ k. unlike first (headerOf (layerAt (now (layers .entry)) (now (lengths .entry)) k))) (length (now (lengths .entry))) ⌝ }
+    ensures { λ r.
+        ⌜ r ≡ anyBelow (λ k. unlike first (headerOf (layerAt (now (layers .entry)) (now (lengths .entry)) k)))
+        (length (now (lengths .entry))) ⌝ }
 {
     let mut end = layers.len();
     let mut k = lengths.len();
@@ -157,7 +155,7 @@ fn step_of(k: u64, answer: LookupAnswer) -> Step
 
 fn layer_step(layers: &[u8], lengths: &[u64], k: usize, end: usize, sector: u64) -> Step
     requires { ⌜ Ends (now layers) (now lengths) (k + 1) end ⌝ }
-    ensures { λ r. ⌜ r ≡ stepOf k (lookup (layerAt (now (layers .entry)) (now (lengths .entry)) k) sector) ⌝ }
+    ensures { λ r. ⌜ r ≡ stepOf k (sectorLookup (layerAt (now (layers .entry)) (now (lengths .entry)) k) sector) ⌝ }
 {
     step_of(k as u64, looked_layer(layers, lengths, k, end, sector))
 }
@@ -220,7 +218,7 @@ fn walk(layers: &[u8], lengths: &[u64], sector: u64) -> ChainAnswer
 
 // The layer that has a sector, and its source there, or the first refusal: 24, the headers from the top down, 22, 20, the walk.
 pub fn chain(layers: &[u8], lengths: &[u64], sector: u64) -> ChainAnswer
-    ensures { λ r. ⌜ r ≡ chain (now (layers .entry)) (now (lengths .entry)) sector ⌝ }
+    ensures { λ r. ⌜ r ≡ chainLookup (now (layers .entry)) (now (lengths .entry)) sector ⌝ }
 {
     if lengths_broken(layers, lengths) {
         return ChainAnswer::Refused {

@@ -2,20 +2,18 @@
 use Prim.Native.Nat.{ℕ, _≤_, _<_}
 use mathlib.Core.Path.{_≡_, refl, sym, ap, _∙_}
 use mathlib.Core.List.{List}
-use mathlib.Core.Bool.{Bool, true, false, not, _&&_, _||_}
+use mathlib.Core.Bool.{Bool, true, false, _||_}
 use native.Mathlib.Omega.{arith}
-use lib.Dec.{ltb, eqb}
-use lib.ListN.{length}
-use borrow.Author.Tests.{eq-eqb}
+use lib.Dec.{ltb}
 use Rattle.base.specs.Pick.{pick}
 use Rattle.base.specs.Bytes.{over}
 use Rattle.base.proofs.Steps.{stop, skip, stop-lt, skip-lt}
 use Rattle.format.specs.Header.{headerOf}
 use Rattle.format.specs.Check.{check}
 use Rattle.format.specs.Chain.{unlike}
-use Rattle.format.specs.Grains.{Grain, Map, onto, merge, grainMap}
-use Rattle.format.specs.Grains.Grain.{absent, zeroed, stored}
-use Rattle.format.specs.Collapse.{mapOf, laidOut, laidLength, normalForm, collapsed, unlessUnaccepted, notCollapsible, fitted, normalFrom, normal, collapseFrom, collapse, output, normalOutput, collapseOutput}
+use Rattle.format.specs.Grains.{Map, merge, grainMap}
+use Rattle.format.specs.Collapse.{mapOf, laidLength, normalForm, collapsed, ifAccepted, notCollapsible, writtenIfRoom}
+use Rattle.format.specs.Collapse.{normalFrom, collapseFrom, output}
 use Rattle.format.specs.declared.Header.{Header}
 use Rattle.format.specs.declared.Refusal.{Refusal}
 use Rattle.format.specs.declared.Refusal.the-variants.{TooLittleRoom, LayersDiffer, NotCollapsible}
@@ -25,6 +23,8 @@ use Rattle.format.specs.declared.HeaderAnswer.{HeaderAnswer}
 use Rattle.format.specs.declared.HeaderAnswer.the-variants.{Known, Refused as unknown}
 use Rattle.format.specs.declared.CollapseAnswer.{CollapseAnswer}
 use Rattle.format.specs.declared.CollapseAnswer.the-variants.{Written, Refused}
+use Rattle.format.proofs.Grains.{onto-self}
+use Rattle.format.proofs.Layers.{like}
 use Rattle.collapse.specs.Layers.{layered, imageOf}
 use Rattle.collapse.specs.Answered.{acceptedHeader, collapseAccepted, Checked, Answered}
 
@@ -39,12 +39,12 @@ as-well e p = rw e p
 
 -- ---- 21
 module _ (long room : ℕ) (all : ℕ) (e : long ≡ all) (image d : List ℕ) where
-  pub too-short : room < long → Answered (fitted room all) image d (Refused TooLittleRoom) d
-  unfolding fitted
+  pub too-short : room < long → Answered (writtenIfRoom room all) image d (Refused TooLittleRoom) d
+  unfolding writtenIfRoom
   too-short h = let l : room < all = omega arith in refused _ image d TooLittleRoom (stop-lt _ _ _ _ _ l refl)
 
-  pub written : long ≤ room → (x : List ℕ) → x ≡ over d 0 image → Answered (fitted room all) image d (Written long) x
-  unfolding fitted output
+  pub written : long ≤ room → (x : List ℕ) → x ≡ over d 0 image → Answered (writtenIfRoom room all) image d (Written long) x
+  unfolding writtenIfRoom output
   written h x p =
       let l : all ≤ room = omega arith in
       let t : Written long ≡ pick (ltb room all) (Refused TooLittleRoom) (Written all) = skip-lt _ _ _ _ _ l (ap Written e) in
@@ -67,7 +67,7 @@ module _ {a b : Bool} (h k : Header) (m : Map) (room : ℕ) (image d : List ℕ)
     unfolding collapseFrom
     not-alike t = refused _ image d LayersDiffer (skip _ _ _ both n (stop _ _ _ i t refl))
 
-    pub then-fitted : c ≡ false → {r : CollapseAnswer} {x : List ℕ} → Answered (fitted room (laidLength h m)) image d r x
+    pub then-fitted : c ≡ false → {r : CollapseAnswer} {x : List ℕ} → Answered (writtenIfRoom room (laidLength h m)) image d r x
         → Answered (collapseFrom h k m room) image d r x
     unfolding collapseFrom
     then-fitted j p = as-well (sym (skip _ _ _ both n (skip _ _ _ i j refl))) p
@@ -75,21 +75,21 @@ module _ {a b : Bool} (h k : Header) (m : Map) (room : ℕ) (image d : List ℕ)
 -- ---- the checks
 module _ (s : List ℕ) (a : HeaderAnswer) (e : a ≡ acceptedHeader (check s) (headerOf s)) (x : CollapseAnswer)
     (image d : List ℕ) where
-  refused-by : (b : CheckAnswer) (r : Refusal) → acceptedHeader b (headerOf s) ≡ unknown r → Refused r ≡ unlessUnaccepted b x
-  unfolding acceptedHeader unlessUnaccepted
+  refused-by : (b : CheckAnswer) (r : Refusal) → acceptedHeader b (headerOf s) ≡ unknown r → Refused r ≡ ifAccepted b x
+  unfolding acceptedHeader ifAccepted
   refused-by (unaccepted q) r p = cc
   refused-by (Accepted c z) r p = let n : _≡_ {A = ℕ} 0 1 = cc in absurd (omega arith)
 
-  known-by : (b : CheckAnswer) (h : Header) → acceptedHeader b (headerOf s) ≡ Known h → unlessUnaccepted b x ≡ x
-  unfolding acceptedHeader unlessUnaccepted
+  known-by : (b : CheckAnswer) (h : Header) → acceptedHeader b (headerOf s) ≡ Known h → ifAccepted b x ≡ x
+  unfolding acceptedHeader ifAccepted
   known-by (unaccepted q) h p = let n : _≡_ {A = ℕ} 0 1 = cc in absurd (omega arith)
   known-by (Accepted c z) h p = refl
 
-  pub unknown-refused : (r : Refusal) → a ≡ unknown r → Answered (unlessUnaccepted (check s) x) image d (Refused r) d
+  pub unknown-refused : (r : Refusal) → a ≡ unknown r → Answered (ifAccepted (check s) x) image d (Refused r) d
   unknown-refused r q = refused _ image d r (refused-by (check s) r (sym e ∙ q))
 
   pub known-on : (h : Header) → a ≡ Known h → {r : CollapseAnswer} {y : List ℕ} → Answered x image d r y
-      → Answered (unlessUnaccepted (check s) x) image d r y
+      → Answered (ifAccepted (check s) x) image d r y
   known-on h q p = as-well (known-by (check s) h (sym e ∙ q)) p
 
 -- the layers' headers are those that their bytes tell
@@ -104,22 +104,12 @@ or-same : (b : Bool) → (b || b) ≡ b
 or-same true = refl
 or-same false = refl
 
-onto-same : (x : Grain) → onto x x ≡ x
-unfolding onto
-onto-same absent = refl
-onto-same zeroed = refl
-onto-same (stored b) = refl
-
 merge-same : (m : Map) → merge m m ≡ m
-merge-same m = λ i g. onto-same (m g) i
-
-alike-itself : (h : Header) → unlike h h ≡ false
-unfolding unlike
-alike-itself h = rw (eq-eqb (h .capacity) (h .capacity) refl, eq-eqb (h .«grain_size») (h .«grain_size») refl)
+merge-same m = λ i g. onto-self (m g) i
 
 itself : (h : Header) (m : Map) (room : ℕ) → collapseFrom h h (merge m m) room ≡ normalFrom h m room
 unfolding collapseFrom normalFrom pick
-itself h m room = rw (or-same (notCollapsible h), alike-itself h, merge-same m)
+itself h m room = rw (or-same (notCollapsible h), like h h refl refl, merge-same m)
 
 pub normal-as : (s : List ℕ) (h : Header) → Checked s h → (room : ℕ) {d : List ℕ} {r : CollapseAnswer} {y : List ℕ}
     → Answered (collapseFrom h h (layered s h s h) room) (imageOf s h s h) d r y

@@ -2,25 +2,20 @@
 use Prim.Native.Nat.{ℕ, _+_, _*_, _≤_, _<_}
 use mathlib.Core.Path.{_≡_, refl, sym, _∙_}
 use mathlib.Core.List.{List}
-use mathlib.Core.Bool.{Bool, true, false, not, _&&_, _||_}
+use mathlib.Core.Bool.{Bool, false, _||_}
 use native.Mathlib.Omega.{arith}
-use lib.Dec.{eqb}
 use lib.ListN.{length}
-use borrow.Author.Tests.{eqb-true}
 use Rattle.base.specs.Pick.{pick}
-use Rattle.base.proofs.Steps.{or-no, and-yes, not-no}
+use Rattle.base.proofs.Steps.{or-no}
 use Rattle.format.specs.Geometry.{fileSectors}
 use Rattle.format.specs.Header.{headerOf, grainsOf, judge}
 use Rattle.format.specs.Entries.{grainEntry, grainSectors}
-use Rattle.format.specs.Check.{grainPast, lowestPast, misplaced, unlessGrain, checkGrains, checkLayout, checkFrom, check}
+use Rattle.format.specs.Check.{grainPast, check}
 use Rattle.format.specs.Chain.{unlike}
 use Rattle.format.specs.Collapse.{notCollapsible}
 use Rattle.format.specs.declared.Header.{Header}
 use Rattle.format.specs.declared.Entry.the-variants.{Sector}
-use Rattle.format.specs.declared.Lowest.{Lowest}
-use Rattle.format.specs.declared.Lowest.the-variants.{None, Grain}
 use Rattle.format.specs.declared.Refusal.{Refusal}
-use Rattle.format.specs.declared.Refusal.the-variants.{GrainPast}
 use Rattle.format.specs.declared.HeaderAnswer.{HeaderAnswer}
 use Rattle.format.specs.declared.HeaderAnswer.the-variants.{Known, Refused as unknown}
 use Rattle.format.specs.declared.CheckAnswer.{CheckAnswer}
@@ -28,40 +23,26 @@ use Rattle.format.specs.declared.CheckAnswer.the-variants.{Accepted, Refused}
 use Rattle.format.proofs.HeaderJudged.{judged-header}
 use Rattle.format.proofs.Inside.{named-in}
 use Rattle.format.proofs.LowestGrain.{none-lowest}
-use Rattle.format.proofs.Picked.{passed}
+use Rattle.format.proofs.Passed.{header-passed, layout-passed}
+use Rattle.format.proofs.Layers.{alike}
 use Rattle.header.proofs.Sound.{judged-sound}
-use Rattle.accept.specs.Placed.{Placed, Filed}
+use Rattle.accept.specs.Placed.{Filed}
 use Rattle.accept.proofs.PlacesKept.{primary-room, table-room}
 use Rattle.collapse.specs.Layers.{Readable, Layers}
 use Rattle.collapse.specs.Answered.{acceptedHeader, Checked}
 
 -- ---- a check that accepts went through 1 to 9
-accepted-grain : (l : Lowest) (refusal : ℕ → Refusal) (y : CheckAnswer) (c z : ℕ) → unlessGrain l refusal y ≡ Accepted c z
-    → l ≡ None
-unfolding unlessGrain
-accepted-grain None refusal y c z e = refl
-accepted-grain (Grain k) refusal y c z e = let n : _≡_ {A = ℕ} 0 1 = cc in absurd (omega arith)
-
 module _ (s : List ℕ) where
-  layout-filed : (h : Header) (c z : ℕ) → judge s ≡ Known h → checkLayout s h ≡ Accepted c z → Filed s h
-  unfolding checkLayout checkGrains
-  layout-filed h c z j e =
-      let a = passed (misplaced s h) _ _ (Accepted c z) (λ q. let n : _≡_ {A = ℕ} 0 1 = cc in omega arith) e in
-      record {
-        placed = record { sound = judged-sound (judge s) s h refl j; kept = a .0 };
-        none = accepted-grain (lowestPast s h) GrainPast _ c z (a .1);
-      }
-
-  from-known : (a : HeaderAnswer) (c z : ℕ) → judge s ≡ a → checkFrom s a ≡ Accepted c z
-      → (judge s ≡ Known (headerOf s)) × Checked s (headerOf s)
-  unfolding checkFrom
-  from-known (unknown r) c z j e = let n : _≡_ {A = ℕ} 0 1 = cc in absurd (omega arith)
-  from-known (Known h) c z j e =
-      let is : h ≡ headerOf s = judged-header s h j in
-      (rw is at j, record { is = refl; filed = rw is at (layout-filed h c z j e) })
-
   accepted-checked : (c z : ℕ) → check s ≡ Accepted c z → (judge s ≡ Known (headerOf s)) × Checked s (headerOf s)
-  accepted-checked c z e = from-known (judge s) c z refl e
+  accepted-checked c z e =
+      let k = header-passed s (judge s) c z e in
+      let p = layout-passed s (k .0) c z (k .2) in
+      let is : k .0 ≡ headerOf s = judged-header s (k .0) (k .1) in
+      let filed : Filed s (k .0) = record {
+        placed = record { sound = judged-sound (judge s) s (k .0) refl (k .1); kept = p .places };
+        none = p .grains;
+      } in
+      (rw is at (k .1), record { is = refl; filed = rw is at filed })
 
   -- ---- the header of an accepted image, at the arms of a match
   module _ (a : CheckAnswer) (e : a ≡ check s) (w : HeaderAnswer) where
@@ -105,12 +86,6 @@ module _ (s : List ℕ) (h : Header) where
   plain : notCollapsible h ≡ false → h .packed ≡ false
   plain e = or-no (h .cowd) (h .packed) e .1
 
-alike : (h k : Header) → unlike h k ≡ false → (k .capacity ≡ h .capacity) × (k .«grain_size» ≡ h .«grain_size»)
-unfolding unlike
-alike h k e =
-    let a = and-yes (eqb (h .capacity) (k .capacity)) (eqb (h .«grain_size») (k .«grain_size»)) (not-no _ e) in
-    (sym (eqb-true _ _ (a .0)), sym (eqb-true _ _ (a .1)))
-
 pub layers-of : {a b c : Bool} (lower : List ℕ) (h : Header) (upper : List ℕ) (k : Header) → Checked lower h → Checked upper k
     → a ≡ notCollapsible h → b ≡ notCollapsible k → (a || b) ≡ false → c ≡ unlike h k → c ≡ false → Layers lower h upper k
 layers-of {a} {b} lower h upper k p q e f n i j =
@@ -119,6 +94,6 @@ layers-of {a} {b} lower h upper k p q e f n i j =
     record {
       below = readable lower h p (plain lower h (sym e ∙ o .0));
       above = readable upper k q (plain upper k (sym f ∙ o .1));
-      capacity = s .0;
-      size = s .1;
+      capacity = sym (s .0);
+      size = sym (s .1);
     }

@@ -1,6 +1,6 @@
 -- One grain put: its entry, and its bytes if it is stored, each premise as the code gives it.
-use Prim.Native.Nat.{ℕ, _+_, _*_, _-_, _≤_, _<_}
-use mathlib.Core.Path.{_≡_, refl, sym, ap, _∙_}
+use Prim.Native.Nat.{ℕ, _+_, _*_, _-_, _≤_}
+use mathlib.Core.Path.{_≡_, refl, sym, _∙_}
 use mathlib.Core.List.{List, []}
 use native.Mathlib.Omega.{arith}
 use native.Mathlib.Nat.{zero-mul, one-mul, add-zero}
@@ -10,7 +10,7 @@ use borrow.Rule.Slice.PartMut.{midOf, putMid}
 use Rattle.base.specs.Numbers.{leBytes}
 use Rattle.base.specs.Bytes.{over}
 use Rattle.base.proofs.Over.{over-none, over-lent}
-use Rattle.format.specs.Grains.{Grain, clip, bytesOf, count, entryFor}
+use Rattle.format.specs.Grains.{Grain, clip, bytesOf, oneIfStored, entryFor}
 use Rattle.format.specs.Grains.Grain.{absent, zeroed, stored}
 use Rattle.collapse.specs.declared.GrainSource.{GrainSource}
 use Rattle.collapse.specs.declared.GrainSource.the-variants.{Absent, Zero, Lower, Upper}
@@ -30,11 +30,11 @@ grain-lent c z g e image v xs ys here q p =
 -- ---- what is left in the output
 pub stored-put : (z at next r : ℕ) (b d y : List ℕ) → r ≡ next + z → y ≡ over (over d at (leBytes 4 next)) (512 * next) b
     → Put (stored b) z at next r d y
-unfolding count entryFor bytesOf
+unfolding oneIfStored entryFor bytesOf
 stored-put z at next r b d y e p = record { sector = e ∙ rw one-mul; bytes = p }
 
 -- a grain that is not stored has an entry only
-entry-put : (x : Grain) (z at next : ℕ) (d y : List ℕ) → count x ≡ 0 → bytesOf x ≡ []
+entry-put : (x : Grain) (z at next : ℕ) (d y : List ℕ) → oneIfStored x ≡ 0 → bytesOf x ≡ []
     → y ≡ over d at (leBytes 4 (entryFor x next)) → Put x z at next next d y
 entry-put x z at next d y n b p = record {
   sector = rw n (sym (simp (zero-mul, add-zero)));
@@ -46,11 +46,11 @@ module _ (lower upper : List ℕ) (c z g at next : ℕ) (source : GrainSource) w
   x = grainAt lower upper c z g source
 
   pub absent-put : (d y : List ℕ) → source ≡ Absent → y ≡ over d at (leBytes 4 0) → Put x z at next next d y
-  unfolding grainAt count entryFor bytesOf
+  unfolding grainAt oneIfStored entryFor bytesOf
   absent-put d y e p = rw e (entry-put absent z at next d y refl refl p)
 
   pub zero-put : (d y : List ℕ) → source ≡ Zero → y ≡ over d at (leBytes 4 1) → Put x z at next next d y
-  unfolding grainAt count entryFor bytesOf
+  unfolding grainAt oneIfStored entryFor bytesOf
   zero-put d y e p = rw e (entry-put zeroed z at next d y refl refl p)
 
   module _ (e : ℕ) where

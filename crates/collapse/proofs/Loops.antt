@@ -1,6 +1,6 @@
 -- The two loops over the grains of both layers: the stored ones counted, and all written.
 use Prim.Native.Nat.{ℕ, _+_, _*_, _≤_, _<_}
-use mathlib.Core.Path.{_≡_, sym, ap, _∙_}
+use mathlib.Core.Path.{_≡_, ap, _∙_}
 use mathlib.Core.List.{List}
 use native.Mathlib.Omega.{arith}
 use native.Mathlib.Nat.{mul-le-mul-right}
@@ -9,8 +9,8 @@ use Rattle.base.proofs.Rounding.{ceil-under, below-ceil}
 use Rattle.format.specs.Geometry.{grains}
 use Rattle.format.specs.Header.{grainsOf}
 use Rattle.format.specs.Entries.{grainEntry}
-use Rattle.format.specs.Grains.{Grain, Map, count, storedBelow}
-use Rattle.format.specs.Layout.{tablesAt, grainsAt, layoutLength}
+use Rattle.format.specs.Grains.{Grain, Map, oneIfStored, storedBelow}
+use Rattle.format.specs.Layout.{tablesAt, sectorV, layoutLength}
 use Rattle.format.specs.declared.Header.{Header}
 use Rattle.header.specs.Sized.{Sized}
 use Rattle.layout.proofs.Stored.{stored-more}
@@ -33,7 +33,7 @@ module _ (c z : ℕ) (s : Sized c z) where
   grain-starts g h = below-ceil c z (s .low) g h
 
 -- the length, as the code computes it
-pub length-is : (c z v n : ℕ) (m : Map) → v ≡ grainsAt c z → n ≡ storedBelow m (grains c z)
+pub length-is : (c z v n : ℕ) (m : Map) → v ≡ sectorV c z → n ≡ storedBelow m (grains c z)
     → 512 * (v + n * z) ≡ layoutLength c z m
 unfolding layoutLength
 length-is c z v n m e q = rw (e, q)
@@ -47,8 +47,8 @@ module _ (lower : List ℕ) (h : Header) (upper : List ℕ) (k : Header) (l : La
       → source ≡ sourceFrom (grainEntry lower h g) (grainEntry upper k g)
       → r ≡ stores source → n + r ≡ storedBelow (layered lower h upper k) (g + 1)
   count-more n r g source e q p =
-      let s : stores source ≡ count (layered lower h upper k g) =
-      rw q (stores-count lower upper (h .capacity) (h .«grain_size») g _ ∙ ap count (source-grain lower h upper k l g)) in
+      let s : stores source ≡ oneIfStored (layered lower h upper k g) =
+      rw q (stores-count lower upper (h .capacity) (h .«grain_size») g _ ∙ ap oneIfStored (source-grain lower h upper k l g)) in
       omega (arith, stored-more (layered lower h upper k) g)
 
   -- ---- writing
@@ -63,7 +63,8 @@ module _ (lower : List ℕ) (h : Header) (upper : List ℕ) (k : Header) (l : La
     module _ (d xs : List ℕ) (next : ℕ) (w : Done (h .capacity) (h .«grain_size») (layered lower h upper k) d g xs next)
         (room : lengthOf lower h upper k ≤ length d) where
       pub grain-ready : (t : ℕ) → t ≡ tablesAt (h .capacity) (h .«grain_size»)
-          → Ready x (h .capacity) (h .«grain_size») g (512 * t + 4 * g) next (length xs) × Standing lower upper (h .«grain_size») source
+          → Ready x (h .capacity) (h .«grain_size») g (512 * t + 4 * g) next (length xs)
+          × Standing lower upper (h .«grain_size») source
       grain-ready t e =
           let s = l .below .sound .sizes in
           let m = layered lower h upper k in

@@ -1,21 +1,19 @@
 -- Where a grain of two layers comes from, each premise as the code gives it.
 use Prim.Native.Nat.{ℕ, _+_, _*_, _/_, _%_, _≤_, _<_}
-use mathlib.Core.Path.{_≡_, refl, sym, ap, _∙_}
+use mathlib.Core.Path.{_≡_, refl, sym, _∙_}
 use mathlib.Core.List.{List}
 use mathlib.Core.Bool.{Bool}
 use native.Mathlib.Omega.{arith}
-use native.Mathlib.Nat.{zero-mul, one-mul, mod-lt}
-use lib.ListN.{length, drop}
-use Rattle.format.specs.Geometry.{grains}
+use native.Mathlib.Nat.{mod-lt}
+use lib.ListN.{length}
 use Rattle.format.specs.Header.{grainsOf}
-use Rattle.format.specs.Entries.{inTable, tableAt, entryOf, grainEntry}
-use Rattle.format.specs.Grains.{Grain, onto, grainFrom, bytesOf, count}
-use Rattle.format.specs.Grains.Grain.{absent, zeroed, stored}
+use Rattle.format.specs.Entries.{inTable, meaningAt, entryOfGrain, grainEntry}
+use Rattle.format.specs.Grains.{upperUnlessAbsent, grainFrom, oneIfStored}
 use Rattle.format.specs.declared.Header.{Header}
 use Rattle.format.specs.declared.Entry.{Entry}
 use Rattle.format.specs.declared.Entry.the-variants.{Absent as noEntry, Zero as zeroEntry, Sector}
 use Rattle.format.proofs.Geometry.{entry-used}
-use Rattle.layout.proofs.Clipped.{clip-length}
+use Rattle.format.proofs.Grains.{whole-length, grain-whole, onto-whole}
 use Rattle.layout.proofs.Stored.{Full}
 use Rattle.collapse.specs.declared.GrainSource.{GrainSource}
 use Rattle.collapse.specs.declared.GrainSource.the-variants.{Absent, Zero, Lower, Upper}
@@ -32,7 +30,7 @@ module _ (s : List ℕ) (h : Header) (r : Readable s h) (g : ℕ) (used : g < gr
             (r .sound .some) g used,
       )
 
-  pub table-read : (a : Entry) (t : ℕ) → a ≡ tableAt s (h .«one_is_zero») (h .directory) (g / h .«entries_per_table»)
+  pub table-read : (a : Entry) (t : ℕ) → a ≡ meaningAt s (h .«one_is_zero») (h .directory) (g / h .«entries_per_table»)
       → a ≡ Sector t
       → 512 * t + 4 * (g % h .«entries_per_table») + 4 ≤ length s
   table-read a t e q =
@@ -42,9 +40,9 @@ module _ (s : List ℕ) (h : Header) (r : Readable s h) (g : ℕ) (used : g < gr
 
 -- ---- at the arms of a match
 pub table-as : (s : List ℕ) (oneIsZero : Bool) (perTable directory g : ℕ) (z a v : Entry)
-    → a ≡ tableAt s oneIsZero directory (g / perTable) → a ≡ v
-    → z ≡ inTable s oneIsZero (g % perTable) v → z ≡ entryOf s oneIsZero perTable directory g
-unfolding entryOf
+    → a ≡ meaningAt s oneIsZero directory (g / perTable) → a ≡ v
+    → z ≡ inTable s oneIsZero (g % perTable) v → z ≡ entryOfGrain s oneIsZero perTable directory g
+unfolding entryOfGrain
 table-as s oneIsZero perTable directory g z a v e q p = rw (← e, q) p
 
 pub lower-as : (z : GrainSource) (a v : Entry) → a ≡ v → z ≡ fromLower v → z ≡ fromLower a
@@ -97,34 +95,32 @@ module _ (lower : List ℕ) (h : Header) (upper : List ℕ) (k : Header) (l : La
 
 -- ---- the grain of a source
 module _ (lower upper : List ℕ) (c z g : ℕ) where
-  merged : (a b : Entry) → grainAt lower upper c z g (sourceFrom a b) ≡ onto (grainFrom lower c z g a) (grainFrom upper c z g b)
-  unfolding grainAt sourceFrom fromLower onto grainFrom
+  merged : (a b : Entry) → grainAt lower upper c z g (sourceFrom a b)
+      ≡ upperUnlessAbsent (grainFrom lower c z g a) (grainFrom upper c z g b)
+  unfolding grainAt sourceFrom fromLower upperUnlessAbsent grainFrom
   merged noEntry noEntry = refl
   merged zeroEntry noEntry = refl
   merged (Sector e) noEntry = refl
   merged a zeroEntry = refl
   merged a (Sector e) = refl
 
-  pub stores-count : (s : GrainSource) → stores s ≡ count (grainAt lower upper c z g s)
-  unfolding stores count grainAt
+  pub stores-count : (s : GrainSource) → stores s ≡ oneIfStored (grainAt lower upper c z g s)
+  unfolding stores oneIfStored grainAt
   stores-count Absent = refl
   stores-count Zero = refl
   stores-count (Lower e) = refl
   stores-count (Upper e) = refl
 
-  bytes-long : (s : GrainSource)
-      → length (bytesOf (grainAt lower upper c z g s)) ≡ count (grainAt lower upper c z g s) * (512 * z)
-  unfolding bytesOf count grainAt
-  bytes-long Absent = sym (zero-mul (512 * z))
-  bytes-long Zero = sym (zero-mul (512 * z))
-  bytes-long (Lower e) = clip-length c z g (drop (512 * e) lower) ∙ sym (one-mul (512 * z))
-  bytes-long (Upper e) = clip-length c z g (drop (512 * e) upper) ∙ sym (one-mul (512 * z))
-
 module _ (lower : List ℕ) (h : Header) (upper : List ℕ) (k : Header) (l : Layers lower h upper k) where
   -- it is the map's
   pub source-grain : (g : ℕ)
-      → grainAt lower upper (h .capacity) (h .«grain_size») g (sourceFrom (grainEntry lower h g) (grainEntry upper k g)) ≡ layered lower h upper k g
+      → grainAt lower upper (h .capacity) (h .«grain_size») g (sourceFrom (grainEntry lower h g) (grainEntry upper k g))
+      ≡ layered lower h upper k g
   source-grain g = merged lower upper (h .capacity) (h .«grain_size») g _ _ ∙ rw (l .capacity, l .size)
 
   pub full : Full (layered lower h upper k) (h .«grain_size»)
-  full = record { bytes = λ g. rw (← source-grain g) (bytes-long lower upper _ _ g _) }
+  full = record {
+    bytes = λ g.
+        whole-length (h .capacity) (h .«grain_size») g _
+        (onto-whole _ _ g _ _ (grain-whole _ _ g lower _) (rw (l .capacity, l .size) (grain-whole _ _ g upper _)));
+  }

@@ -3,8 +3,8 @@ use Prim.Native.Nat.{ℕ, _+_, _*_, _≤_, _<_}
 use mathlib.Core.Path.{_≡_}
 use mathlib.Core.List.{List}
 use lib.ListN.{length, drop}
-use Rattle.format.specs.Header.{grainsOf, entriesOf}
-use Rattle.format.specs.Entries.{tableAt, grainEntry}
+use Rattle.format.specs.Header.{grainsOf, directoryEntriesOf}
+use Rattle.format.specs.Entries.{meaningAt, grainEntry}
 use Rattle.format.specs.Grains.{Grain, Map, merge, clip, grainMap}
 use Rattle.format.specs.Grains.Grain.{absent, zeroed, stored}
 use Rattle.format.specs.Collapse.{laidOut, laidLength}
@@ -53,8 +53,8 @@ lengthOf lower h upper k = laidLength h (layered lower h upper k)
 -- ---- what is known of an accepted layer that is not compressed: its entries in use and the grains that they name lie in it
 pub record Readable (s : List ℕ) (h : Header) : Type 0 where
   pub sound : Sound h
-  pub directory : 512 * h .directory + 4 * entriesOf h ≤ length s
-  pub table : (d t : ℕ) → d < entriesOf h → tableAt s (h .«one_is_zero») (h .directory) d ≡ Sector t
+  pub directory : 512 * h .directory + 4 * directoryEntriesOf h ≤ length s
+  pub table : (d t : ℕ) → d < directoryEntriesOf h → meaningAt s (h .«one_is_zero») (h .directory) d ≡ Sector t
       → 512 * t + 4 * h .«entries_per_table» ≤ length s
   pub grain : (g e : ℕ) → g < grainsOf h → grainEntry s h g ≡ Sector e → 512 * e + 512 * h .«grain_size» ≤ length s
 

@@ -8,18 +8,18 @@ ghost use Rattle.collapse.specs.Layers.{fromLower, sourceFrom, stores, l
 use super::GrainSource;
 use format::Entry;
 use format::Header;
-use lookup::entries::table_at;
+use lookup::entries::meaning_at;
 
 // What the layer's directory and tables say of grain g.
 fn entry_of(image: &[u8], h: Header, g: u64) -> Entry
     requires { ⌜ Readable (now image) h × (g < grainsOf h) ⌝ }
     ensures { λ r. ⌜ r ≡ grainEntry (now (image .entry)) h g ⌝ }
 {
-    let table = table_at(image, h.one_is_zero, h.directory, g / h.entries_per_table);
+    let table = meaning_at(image, h.one_is_zero, h.directory, g / h.entries_per_table);
     match table {
         Entry::Absent => Entry::Absent,
         Entry::Zero => Entry::Zero,
-        Entry::Sector(t) => table_at(image, h.one_is_zero, t, g % h.entries_per_table),
+        Entry::Sector(t) => meaning_at(image, h.one_is_zero, t, g % h.entries_per_table),
     }
 }
 
@@ -60,9 +60,10 @@ fn stores_of(source: GrainSource) -> u64
 // The stored grains of both layers together.
 pub fn count_stored(lower: &[u8], h: Header, upper: &[u8], k: Header) -> u64
     requires { ⌜ Layers (now lower) h (now upper) k ⌝ }
-    ensures { λ r. ⌜ (r ≡ storedBelow (layered (now (lower .entry)) h (now (upper .entry)) k) (grainsOf h)) × (r ≤ grainsOf h) ⌝ }
+    ensures { λ r.
+        ⌜ (r ≡ storedBelow (layered (now (lower .entry)) h (now (upper .entry)) k) (grainsOf h)) × (r ≤ grainsOf h) ⌝ }
 {
-    let all = layout::places::grains_of(h.capacity, h.grain_size);
+    let all = header::sizes::grains_of(h.capacity, h.grain_size);
     let mut stored: u64 = 0;
     let mut g: u64 = 0;
     while g < all {

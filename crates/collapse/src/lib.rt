@@ -3,8 +3,8 @@ ghost use mathlib.Core.Path.{_≡_};
 ghost use lib.ListN.{length};
 ghost use Rattle.format.specs.Header.{headerOf};
 ghost use Rattle.format.specs.Check.{check};
-ghost use Rattle.format.specs.Chain.{unlike};
-ghost use Rattle.format.specs.Collapse.{collapsed, unlessUnaccepted, notCollapsible, fitted, normal, normalOutput, collapseFrom, collapse, collapseOutput};
+ghost use Rattle.format.specs.Collapse.{collapsed, ifAccepted, notCollapsible, writtenIfRoom, normal, normalOutput};
+ghost use Rattle.format.specs.Collapse.{collapseFrom, collapse, collapseOutput};
 ghost use Rattle.collapse.specs.Layers.{layered, imageOf, lengthOf, Layers};
 ghost use Rattle.collapse.specs.Answered.{acceptedHeader, collapseAccepted, Checked, Answered};
 use format::CheckAnswer;
@@ -44,16 +44,12 @@ fn not_collapsible(h: Header) -> bool
     h.cowd | h.packed
 }
 
-fn unlike_of(h: Header, k: Header) -> bool
-    ensures { λ r. ⌜ r ≡ unlike h k ⌝ }
-{
-    !((h.capacity == k.capacity) & (h.grain_size == k.grain_size))
-}
-
 // 21, or the image written.
 fn write_fitted(lower: &[u8], h: Header, upper: &[u8], k: Header, out: &mut [u8]) -> CollapseAnswer
     requires { ⌜ Layers (now lower) h (now upper) k ⌝ }
-    ensures { λ r. ⌜ Answered (fitted (length (now (out .entry))) (lengthOf (now (lower .entry)) h (now (upper .entry)) k)) (imageOf (now (lower .entry)) h (now (upper .entry)) k) (now (out .entry)) r (now (out .exit)) ⌝ }
+    ensures { λ r.
+        ⌜ Answered (writtenIfRoom (length (now (out .entry))) (lengthOf (now (lower .entry)) h (now (upper .entry)) k))
+        (imageOf (now (lower .entry)) h (now (upper .entry)) k) (now (out .entry)) r (now (out .exit)) ⌝ }
 {
     let long = write::image_length(lower, h, upper, k);
     if (out.len() as u64) < long {
@@ -72,12 +68,14 @@ fn collapse_layers(
     out: &mut [u8],
 ) -> CollapseAnswer
     requires { ⌜ Checked (now lower) h × Checked (now upper) k ⌝ }
-    ensures { λ r. ⌜ Answered (collapseFrom h k (layered (now (lower .entry)) h (now (upper .entry)) k) (length (now (out .entry)))) (imageOf (now (lower .entry)) h (now (upper .entry)) k) (now (out .entry)) r (now (out .exit)) ⌝ }
+    ensures { λ r.
+        ⌜ Answered (collapseFrom h k (layered (now (lower .entry)) h (now (upper .entry)) k) (length (now (out .entry))))
+        (imageOf (now (lower .entry)) h (now (upper .entry)) k) (now (out .entry)) r (now (out .exit)) ⌝ }
 {
     if not_collapsible(h) | not_collapsible(k) {
         return CollapseAnswer::Refused(Refusal::NotCollapsible);
     }
-    if unlike_of(h, k) {
+    if header::unlike(h, k) {
         return CollapseAnswer::Refused(Refusal::LayersDiffer);
     }
     write_fitted(lower, h, upper, k, &mut *out)
@@ -86,7 +84,10 @@ fn collapse_layers(
 // Where the lower image is accepted: the upper's check, then the rest.
 fn collapse_onto(lower: &[u8], h: Header, upper: &[u8], out: &mut [u8]) -> CollapseAnswer
     requires { ⌜ Checked (now lower) h ⌝ }
-    ensures { λ r. ⌜ Answered (unlessUnaccepted (check (now (upper .entry))) (collapseAccepted (now (lower .entry)) (now (upper .entry)) (length (now (out .entry))))) (collapsed (now (lower .entry)) (now (upper .entry))) (now (out .entry)) r (now (out .exit)) ⌝ }
+    ensures { λ r.
+        ⌜ Answered (ifAccepted (check (now (upper .entry)))
+        (collapseAccepted (now (lower .entry)) (now (upper .entry)) (length (now (out .entry)))))
+        (collapsed (now (lower .entry)) (now (upper .entry))) (now (out .entry)) r (now (out .exit)) ⌝ }
 {
     let judged = accepted(upper);
     match judged {
@@ -95,7 +96,8 @@ fn collapse_onto(lower: &[u8], h: Header, upper: &[u8], out: &mut [u8]) -> Colla
     }
 }
 
-// The collapsed image of both: a grain is the upper's unless absent there. Bytes past the result, and all on a refusal, are kept.
+// The collapsed image of both: a grain is the upper's unless absent there. Bytes past the result, and all on a refusal, are
+// kept.
 pub fn collapse(lower: &[u8], upper: &[u8], out: &mut [u8]) -> CollapseAnswer
     ensures { λ r. ⌜ r ≡ collapse (now (lower .entry)) (now (upper .entry)) (length (now (out .entry))) ⌝ }
     ensures { λ r. ⌜ now (out .exit) ≡ collapseOutput (now (lower .entry)) (now (upper .entry)) (now (out .entry)) ⌝ }

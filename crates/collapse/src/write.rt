@@ -13,8 +13,8 @@ use super::GrainSource;
 use super::layers::count_stored;
 use super::layers::source_of;
 use format::Header;
-use layout::places::grains_at;
-use layout::places::grains_of;
+use header::sizes::grains_of;
+use layout::places::sector_v;
 use layout::places::tables_at;
 
 // The result's length in bytes.
@@ -23,7 +23,7 @@ pub fn image_length(lower: &[u8], h: Header, upper: &[u8], k: Header) -> u64
     ensures { λ r. ⌜ r ≡ lengthOf (now (lower .entry)) h (now (upper .entry)) k ⌝ }
 {
     let stored = count_stored(lower, h, upper, k);
-    512 * (grains_at(h.capacity, h.grain_size) + stored * h.grain_size)
+    512 * (sector_v(h.capacity, h.grain_size) + stored * h.grain_size)
 }
 
 // Grain g, which stands at sector e of its layer. The output is lent from the grain's place on.
@@ -37,9 +37,12 @@ fn put_stored(
     size: u64,
     g: u64,
 ) -> u64
-    requires { ⌜ Ready (stored (clip capacity size g (drop (512 * e) (now image)))) capacity size g at next (length (now out)) ⌝ }
+    requires { ⌜ Ready (stored (clip capacity size g (drop (512 * e) (now image)))) capacity size g at next
+        (length (now out)) ⌝ }
     requires { ⌜ 512 * e + 512 * size ≤ length (now image) ⌝ }
-    ensures { λ r. ⌜ Put (stored (clip capacity size g (drop (512 * e) (now (image .entry))))) size at next r (now (out .entry)) (now (out .exit)) ⌝ }
+    ensures { λ r.
+        ⌜ Put (stored (clip capacity size g (drop (512 * e) (now (image .entry))))) size at next r (now (out .entry))
+        (now (out .exit)) ⌝ }
 {
     base::put_u32(&mut *out, at, next);
     let here = (512 * next) as usize;
@@ -62,7 +65,9 @@ fn put_grain(
 ) -> u64
     requires { ⌜ Ready (grainAt (now lower) (now upper) capacity size g source) capacity size g at next (length (now out)) ⌝ }
     requires { ⌜ Standing (now lower) (now upper) size source ⌝ }
-    ensures { λ r. ⌜ Put (grainAt (now (lower .entry)) (now (upper .entry)) capacity size g source) size at next r (now (out .entry)) (now (out .exit)) ⌝ }
+    ensures { λ r.
+        ⌜ Put (grainAt (now (lower .entry)) (now (upper .entry)) capacity size g source) size at next r (now (out .entry))
+        (now (out .exit)) ⌝ }
 {
     match source {
         GrainSource::Absent => {
@@ -81,11 +86,13 @@ fn put_grain(
 // Entries and bytes, grain by grain.
 fn write_grains(out: &mut [u8], lower: &[u8], h: Header, upper: &[u8], k: Header)
     requires { ⌜ Layers (now lower) h (now upper) k × (lengthOf (now lower) h (now upper) k ≤ length (now out)) ⌝ }
-    ensures { λ _. ⌜ now (out .exit) ≡ withGrains (h .capacity) (h .«grain_size») (layered (now (lower .entry)) h (now (upper .entry)) k) (grainsOf h) (now (out .entry)) ⌝ }
+    ensures { λ _.
+        ⌜ now (out .exit) ≡ withGrains (h .capacity) (h .«grain_size») (layered (now (lower .entry)) h (now (upper .entry)) k)
+        (grainsOf h) (now (out .entry)) ⌝ }
 {
     let all = grains_of(h.capacity, h.grain_size);
     let table = 512 * tables_at(h.capacity, h.grain_size);
-    let mut next = grains_at(h.capacity, h.grain_size);
+    let mut next = sector_v(h.capacity, h.grain_size);
     let mut g: u64 = 0;
     while g < all {
         let source = source_of(lower, h, upper, k, g);

@@ -1,4 +1,5 @@
--- Small texts on both sides of the grammar's edges and what the definitions say of them: one statement over a list, by computation.
+-- Small texts on both sides of the grammar's edges and what the definitions say of them: one statement over a list, by
+-- computation.
 use Prim.Native.Nat.{ℕ}
 use Prim.Native.String.{String}
 use mathlib.Core.Path.{_≡_, refl}
@@ -7,12 +8,14 @@ use lib.ListN.{replicate}
 use Rattle.base.specs.Pick.{pick}
 use Rattle.base.specs.Strings.{sameWord, ascii}
 use Rattle.descriptor.specs.declared.Extent.{Extent}
-use Rattle.descriptor.specs.Words.{until, kept, worth, digits, number, closedAt, quotedLength}
+use Rattle.descriptor.specs.Words.{countBefore, kept, digitValue, numeralFrom, numeral, toQuoteAt, quotedLength}
 use Rattle.descriptor.specs.Text.{linesFrom}
-use Rattle.descriptor.specs.Extents.{accessOf, typeOf, spacedAt, spaced, offsetOf, extent, withName, fromName, withType, withSectors}
+use Rattle.descriptor.specs.Extents.{accessOf, typeOf, blanksThenDecimalAt, blanksThenDecimal, offsetOf, extent, withName}
+use Rattle.descriptor.specs.Extents.{fromName, withType, withSectors}
 use Rattle.descriptor.specs.Keys.{keyOf, versionIs, cidIs, createTypeIs, valueOf, withKey, splitAt}
 use Rattle.descriptor.specs.Line.{lineWith}
-use Rattle.descriptor.specs.Descriptor.{refused, skipped, opened, added, noted, once, judgedLine, step, complete, ended, judged, judgedText, readText}
+use Rattle.descriptor.specs.Descriptor.{refused, skipped, opened, added, noted, once, judgedLine, step, judgedEnd, ended}
+use Rattle.descriptor.specs.Descriptor.{judged, judgedText, readText}
 use Rattle.descriptor.specs.Records.{accepted, handed, answered, descriptorAnswer, descriptorList, foundFrom, findAnswer}
 
 -- ---- texts
@@ -50,15 +53,17 @@ abbrev tells : ℕ → List ℕ → List ℕ → Example
 tells n s wanted =
     let d = descriptorAnswer s (lent n) in
     record {
-      gives = d .number ∷ d .place ∷ d .extents ∷ d .version ∷ d .cid ∷ d .«parent_cid» ∷ d .«type_at» ∷ d .«type_length» ∷ values (descriptorList s (lent n));
+      gives =
+          d .number ∷ d .place ∷ d .extents ∷ d .version ∷ d .cid ∷ d .«parent_cid» ∷ d .«type_at» ∷ d .«type_length» ∷ values
+          (descriptorList s (lent n));
       wants = wanted;
     }
 
 -- the first call's number and place
 abbrev refuses : ℕ → ℕ → List ℕ → Example
-refuses number place s =
+refuses numeral place s =
     let d = descriptorAnswer s (lent 32) in
-    record { gives = d .number ∷ d .place ∷ []; wants = number ∷ place ∷ [] }
+    record { gives = d .number ∷ d .place ∷ []; wants = numeral ∷ place ∷ [] }
 
 -- no refusal
 abbrev accepts : List ℕ → Example
@@ -125,5 +130,5 @@ examples =
 
 -- the definitions say of each what is wanted
 pub examples-hold : map (λ (e : Example). e .gives) examples ≡ map (λ (e : Example). e .wants) examples
-unfolding pick sameWord until kept worth digits number closedAt quotedLength linesFrom accessOf typeOf spacedAt spaced offsetOf extent withName fromName withType withSectors keyOf versionIs cidIs createTypeIs valueOf withKey splitAt lineWith refused skipped opened added noted once judgedLine step complete ended judged judgedText readText accepted handed answered foundFrom
+unfolding pick sameWord countBefore kept digitValue numeralFrom numeral toQuoteAt quotedLength linesFrom accessOf typeOf blanksThenDecimalAt blanksThenDecimal offsetOf extent withName fromName withType withSectors keyOf versionIs cidIs createTypeIs valueOf withKey splitAt lineWith refused skipped opened added noted once judgedLine step judgedEnd ended judged judgedText readText accepted handed answered foundFrom
 examples-hold = refl

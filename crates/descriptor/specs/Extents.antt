@@ -1,5 +1,5 @@
--- An extent line: access, sectors, type, quoted name, offset, one or more spaces or tabs between; 34 if one of them is at fault.
--- `first` is the extent's first virtual sector, `end` the place where the line ends, v what is left of the line.
+-- An extent line: access, sectors, type, quoted name, offset, one or more spaces or tabs between; 34 if one of them is at
+-- fault. `first` is the extent's first virtual sector, `end` the place where the line ends, v what is left of the line.
 use Prim.Native.Nat.{ℕ}
 use mathlib.Core.List.{List}
 use mathlib.Core.Bool.{Bool, _||_}
@@ -9,12 +9,22 @@ use Rattle.base.specs.Strings.{sameWord, ascii}
 use Rattle.descriptor.specs.declared.Stop.the-variants.{NotBlank}
 use Rattle.descriptor.specs.declared.Line.{Line}
 use Rattle.descriptor.specs.declared.Line.the-variants.{Fault, Holds}
-use Rattle.descriptor.specs.Words.{empty, until, rest, word, afterWord, none, decimal, quotedLength, quotedPlace, afterQuoted}
+use Rattle.descriptor.specs.Words.{empty, countBefore, rest, word, afterWord, noValue, decimal, quotedLength, quotedPlace}
+use Rattle.descriptor.specs.Words.{afterQuoted}
 
 -- ---- fixed words
--- the types' numbers in a record; `unknown` is for any other word
-abbrev pub unknown : ℕ
-unknown = 0
+-- the numbers of accesses and types in a record; `otherWord` is for any other word
+abbrev pub otherWord : ℕ
+otherWord = 0
+
+abbrev pub RW : ℕ
+RW = 1
+
+abbrev pub RDONLY : ℕ
+RDONLY = 2
+
+abbrev pub NOACCESS : ℕ
+NOACCESS = 3
 
 abbrev pub FLAT : ℕ
 FLAT = 1
@@ -31,10 +41,11 @@ VMFSSPARSE = 4
 abbrev pub ZERO : ℕ
 ZERO = 5
 
--- the access is RW, RDONLY or NOACCESS, in a record 1, 2 or 3
+-- the access is RW, RDONLY or NOACCESS
 unfoldable pub accessOf : List ℕ → ℕ
 accessOf w =
-    pick (sameWord w (ascii "rw")) 1 (pick (sameWord w (ascii "rdonly")) 2 (pick (sameWord w (ascii "noaccess")) 3 unknown))
+    pick (sameWord w (ascii "rw")) RW
+    (pick (sameWord w (ascii "rdonly")) RDONLY (pick (sameWord w (ascii "noaccess")) NOACCESS otherWord))
 
 -- the type is FLAT, VMFS, SPARSE, VMFSSPARSE or ZERO
 unfoldable pub typeOf : List ℕ → ℕ
@@ -42,7 +53,7 @@ typeOf w =
     pick (sameWord w (ascii "flat")) FLAT
     (pick (sameWord w (ascii "vmfs")) VMFS
     (pick (sameWord w (ascii "sparse")) SPARSE
-    (pick (sameWord w (ascii "vmfssparse")) VMFSSPARSE (pick (sameWord w (ascii "zero")) ZERO unknown))))
+    (pick (sameWord w (ascii "vmfssparse")) VMFSSPARSE (pick (sameWord w (ascii "zero")) ZERO otherWord))))
 
 -- ---- what is refused
 -- sectors are 1 to 2^31
@@ -59,17 +70,17 @@ offsetBad offset = ltb 0xffffffff offset
 
 -- ---- the offset
 -- one or more spaces or tabs stand before a decimal, and nothing after it
-unfoldable pub spacedAt : ℕ → List ℕ → ℕ
-spacedAt blanks v = pick (eqb blanks 0) none (decimal v)
+unfoldable pub blanksThenDecimalAt : ℕ → List ℕ → ℕ
+blanksThenDecimalAt blanks v = pick (eqb blanks 0) noValue (decimal v)
 
 -- the decimal in v, behind the spaces or tabs that v starts with
-unfoldable pub spaced : List ℕ → ℕ
-spaced v = spacedAt (until NotBlank v) (rest NotBlank v)
+unfoldable pub blanksThenDecimal : List ℕ → ℕ
+blanksThenDecimal v = blanksThenDecimalAt (countBefore NotBlank v) (rest NotBlank v)
 
 -- after the name: FLAT needs an offset, VMFS has maybe one (else 0), SPARSE and VMFSSPARSE have a name only
 unfoldable pub offsetOf : ℕ → List ℕ → ℕ
 offsetOf kind v =
-    pick (empty v) (pick (eqb kind FLAT) none 0) (pick (eqb kind FLAT || eqb kind VMFS) (spaced v) none)
+    pick (empty v) (pick (eqb kind FLAT) noValue 0) (pick (eqb kind FLAT || eqb kind VMFS) (blanksThenDecimal v) noValue)
 
 -- ---- the fields: `fromSectors`, the last one here, reads them from left to right
 -- the record: first virtual sector, sectors, access, type, name's place and length, offset
@@ -100,7 +111,7 @@ fromName first end access sectors kind v =
 -- the type is judged: ZERO has neither name nor offset, every other type needs a name; what a line doesn't have is 0
 unfoldable pub withType : ℕ → ℕ → ℕ → ℕ → ℕ → List ℕ → Line
 withType first end access sectors kind v =
-    pick (eqb kind unknown) (Fault 34)
+    pick (eqb kind otherWord) (Fault 34)
     (pick (eqb kind ZERO) (pick (empty v) (extent first access sectors ZERO 0 0 0) (Fault 34))
     (fromName first end access sectors kind v))
 

@@ -1,4 +1,5 @@
--- A line that is key = value. A line of no form is 32, a required key that is malformed 33. `end` is the place where the line ends.
+-- A line that is key = value. A line of no form is 32, a required key that is malformed 33. `end` is the place where the line
+-- ends.
 use Prim.Native.Nat.{ℕ, _+_}
 use mathlib.Core.List.{List}
 use mathlib.Core.Bool.{Bool, _||_}
@@ -9,7 +10,8 @@ use Rattle.base.specs.Strings.{sameWord, ascii}
 use Rattle.descriptor.specs.declared.Stop.the-variants.{Byte}
 use Rattle.descriptor.specs.declared.Line.{Line}
 use Rattle.descriptor.specs.declared.Line.the-variants.{Skip, Fault, Key}
-use Rattle.descriptor.specs.Words.{equals, empty, until, trimStart, trimEnd, none, decimal, hex, quotedLength, quotedPlace}
+use Rattle.descriptor.specs.Words.{equals, empty, countBefore, trimStart, trimEnd, noValue, decimal, hex, quotedLength}
+use Rattle.descriptor.specs.Words.{quotedPlace}
 
 -- ---- keys
 -- the required keys' numbers; `otherKey` is for any other key
@@ -47,11 +49,11 @@ versionIs n = pick (versionBad n) (Fault 33) (Key versionKey n 0)
 
 -- CID and parentCID are 1 to 8 hex digits
 unfoldable pub cidIs : ℕ → ℕ → Line
-cidIs key n = pick (eqb n none) (Fault 33) (Key key n 0)
+cidIs key n = pick (eqb n noValue) (Fault 33) (Key key n 0)
 
--- createType is quoted, no quote inside: n bytes and the two quotes are all `long` bytes of the value
+-- createType is quoted, no quote inside: n bytes, if that is a value, and the two quotes are all `long` bytes of the value
 unfoldable pub createTypeIs : ℕ → ℕ → ℕ → Line
-createTypeIs place long n = pick (eqb n none) (Fault 33) (pick (eqb long (n + 2)) (Key createTypeKey place n) (Fault 33))
+createTypeIs place long n = pick (eqb n noValue) (Fault 33) (pick (eqb long (n + 2)) (Key createTypeKey place n) (Fault 33))
 
 -- the value v of a key; other keys are skipped
 unfoldable pub valueOf : ℕ → ℕ → List ℕ → Line
@@ -61,15 +63,15 @@ valueOf end key v =
     (pick (eqb key createTypeKey) (createTypeIs (quotedPlace end v) (length v) (quotedLength v)) (cidIs key (hex v))))
 
 -- ---- the line
--- n of `long` bytes stand before the first =; if all do, the line has none and is of no form; nor is the key w empty
+-- n of `long` bytes stand before the first =; if all do, the line has none and is of no form (32); an empty key w is 32 too
 unfoldable pub withKey : ℕ → ℕ → ℕ → List ℕ → ℕ → List ℕ → Line
 withKey end n long w key v = pick (eqb n long) (Fault 32) (pick (empty w) (Fault 32) (valueOf end key v))
 
--- split behind n bytes, both sides trimmed: of a trimmed line that is the key's end and the value's start
+-- split behind n bytes, both sides trimmed: the line is trimmed already, so the key's end and the value's start are left
 unfoldable pub splitAt : ℕ → List ℕ → ℕ → Line
 splitAt end w n =
     withKey end n (length w) (trimEnd (take n w)) (keyOf (trimEnd (take n w))) (trimStart (drop (n + 1) w))
 
 -- split at the first =
 abbrev pub keyLine : ℕ → List ℕ → Line
-keyLine end w = splitAt end w (until (Byte equals) w)
+keyLine end w = splitAt end w (countBefore (Byte equals) w)

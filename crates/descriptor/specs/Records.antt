@@ -50,7 +50,7 @@ handed st =
 abbrev pub parsed : List ℕ → Parsed
 parsed s = handed (readText s)
 
--- the records, at most 32 since more extents are 35, have room in the list
+-- the records have room in the list. Over 32 never come here, since they are 35: who stores them need not know that
 abbrev pub fits : List Extent → ℕ → Bool
 fits list count = leb count 32 && leb count (length list)
 

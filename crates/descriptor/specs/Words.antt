@@ -51,17 +51,17 @@ abbrev pub begins : ℕ → List ℕ → Bool
 begins b w = eqb (getD w 0 0) b
 
 -- how many bytes stand before the first at which a run stops; all of them if it stops at none
-unfoldable pub until : Stop → List ℕ → ℕ
-until stop [] = 0
-until stop (x ∷ w) = pick (stops stop x) 0 (until stop w + 1)
+unfoldable pub countBefore : Stop → List ℕ → ℕ
+countBefore stop [] = 0
+countBefore stop (x ∷ w) = pick (stops stop x) 0 (countBefore stop w + 1)
 
 -- the bytes before that one
 abbrev pub before : Stop → List ℕ → List ℕ
-before stop w = take (until stop w) w
+before stop w = take (countBefore stop w) w
 
 -- the bytes from that one on
 abbrev pub rest : Stop → List ℕ → List ℕ
-rest stop w = drop (until stop w) w
+rest stop w = drop (countBefore stop w) w
 
 -- spaces, tabs and 0d trimmed at the start
 abbrev pub trimStart : List ℕ → List ℕ
@@ -89,48 +89,50 @@ abbrev pub afterWord : List ℕ → List ℕ
 afterWord w = rest NotBlank (rest Blank w)
 
 -- ---- numbers
--- no number: above all that 10 decimal or 8 hex digits can make
-abbrev pub none : ℕ
-none = 0x10000000000
+-- no value: no such number, no closing quote, a key that did not come. It is above all that 10 decimal or 8 hex digits can
+-- make, and above all places and lengths
+abbrev pub noValue : ℕ
+noValue = 0x10000000000
 
 -- what a digit is worth, 0 to 9 and a to f of either case; 255 for any other byte
-unfoldable pub worth : ℕ → ℕ
-worth x =
+unfoldable pub digitValue : ℕ → ℕ
+digitValue x =
     pick (ltb x 0x30) 255
     (pick (ltb x 0x3a) (x - 0x30)
     (pick (ltb x 0x41) 255 (pick (ltb x 0x47) (x - 0x37) (pick (ltb x 0x61) 255 (pick (ltb x 0x67) (x - 0x57) 255)))))
 
--- the number that digits of a base make, read on from n; none if a byte is no digit of the base
-unfoldable pub digits : ℕ → ℕ → List ℕ → ℕ
-digits base n [] = n
-digits base n (x ∷ w) = pick (ltb (worth x) base) (digits base (base * n + worth x) w) none
+-- the number that digits of a base make, read on from n; no value if a byte is no digit of the base
+unfoldable pub numeralFrom : ℕ → ℕ → List ℕ → ℕ
+numeralFrom base n [] = n
+numeralFrom base n (x ∷ w) = pick (ltb (digitValue x) base) (numeralFrom base (base * n + digitValue x) w) noValue
 
--- 1 to `most` digits of a base and nothing else; none if w is no such number
-unfoldable pub number : ℕ → ℕ → List ℕ → ℕ
-number base most w = pick (empty w) none (pick (ltb most (length w)) none (digits base 0 w))
+-- 1 to `most` digits of a base and nothing else; no value if w is no such number
+unfoldable pub numeral : ℕ → ℕ → List ℕ → ℕ
+numeral base most w = pick (empty w) noValue (pick (ltb most (length w)) noValue (numeralFrom base 0 w))
 
 -- decimals have 1 to 10 digits
 abbrev pub decimal : List ℕ → ℕ
-decimal w = number 10 10 w
+decimal w = numeral 10 10 w
 
 -- 1 to 8 hex digits
 abbrev pub hex : List ℕ → ℕ
-hex w = number 16 8 w
+hex w = numeral 16 8 w
 
 -- ---- quoted parts
--- n of `long` bytes stand before the next quote; none if n is all of them, since then there is no quote
-unfoldable pub closedAt : ℕ → ℕ → ℕ
-closedAt n long = pick (eqb n long) none n
+-- n of `long` bytes stand before the next quote; no value if n is all of them, since then there is no quote
+unfoldable pub toQuoteAt : ℕ → ℕ → ℕ
+toQuoteAt n long = pick (eqb n long) noValue n
 
 -- how many bytes stand before the closing quote, the next one: so a quoted part has no quote inside
-abbrev pub closed : List ℕ → ℕ
-closed w = closedAt (until (Byte quote) w) (length w)
+abbrev pub toQuote : List ℕ → ℕ
+toQuote w = toQuoteAt (countBefore (Byte quote) w) (length w)
 
--- the length of the quoted part that w begins with, its quotes not counted; none if w begins with no such part
+-- the length of the quoted part that w begins with, its quotes not counted; no value if w, empty or not, begins with no such
+-- part
 unfoldable pub quotedLength : List ℕ → ℕ
-quotedLength w = pick (empty w) none (pick (begins quote w) (closed (drop 1 w)) none)
+quotedLength w = pick (empty w) noValue (pick (begins quote w) (toQuote (drop 1 w)) noValue)
 
--- its place is that of the byte after the opening quote: w, the end of a line, ends with the line at `end`
+-- its place is that of the byte after the opening quote: w is the end of a line, which ends at `end`
 abbrev pub quotedPlace : ℕ → List ℕ → ℕ
 quotedPlace end w = end - length w + 1
 

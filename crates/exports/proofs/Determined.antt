@@ -49,9 +49,11 @@ module _ (κs : Lfts 2) (a : ArgsD normal.signature κs) (r q : ResD normal.sign
   pub normal-determined : normal-reads.Post κs a r s → normal-reads.Post κs a q t → (r ≡ q) × (now (s .1 .0) ≡ now (t .1 .0))
   normal-determined p o = (p .0 ∙ sym (o .0), p .1 ∙ sym (o .1))
 
-module _ (κs : Lfts 3) (a : ArgsD collapse.signature κs) (r q : ResD collapse.signature κs) (s t : AtExit collapse.ended κs) where
-  pub collapse-determined : collapse-reads.Post κs a r s → collapse-reads.Post κs a q t → (r ≡ q) × (now (s .1 .1 .0) ≡ now (t .1 .1 .0))
-  collapse-determined p o = (p .0 ∙ sym (o .0), p .1 ∙ sym (o .1))
+module _ (κs : Lfts 3) (a : ArgsD collapse.signature κs) (r q : ResD collapse.signature κs) (s t : AtExit collapse.ended κs)
+  where
+    pub collapse-determined : collapse-reads.Post κs a r s → collapse-reads.Post κs a q t → (r ≡ q)
+        × (now (s .1 .1 .0) ≡ now (t .1 .1 .0))
+    collapse-determined p o = (p .0 ∙ sym (o .0), p .1 ∙ sym (o .1))
 
 -- ---- the two calls over a list of structs are walked by hand, and have no `Reads`: their clauses, written out again
 pub descriptor-determined : (text : List ℕ) (list s t : List Extent) (r q : Described)
@@ -60,5 +62,6 @@ pub descriptor-determined : (text : List ℕ) (list s t : List Extent) (r q : De
     → (r ≡ q) × (s ≡ t)
 descriptor-determined text list s t r q p o = (p .0 ∙ sym (o .0), p .1 ∙ sym (o .1))
 
-pub find-determined : (list : List Extent) (sector : ℕ) (r q : Found) → r ≡ findAnswer list sector → q ≡ findAnswer list sector → r ≡ q
+pub find-determined : (list : List Extent) (sector : ℕ) (r q : Found) → r ≡ findAnswer list sector → q
+    ≡ findAnswer list sector → r ≡ q
 find-determined list sector r q p o = p ∙ sym o

@@ -3,10 +3,10 @@ ghost use mathlib.Core.Path.{_≡_};
 ghost use lib.ListN.{length};
 ghost use Rattle.format.specs.Header.{judge};
 ghost use Rattle.format.specs.Check.{check};
-ghost use Rattle.format.specs.Source.{lookup};
-ghost use Rattle.format.specs.Chain.{chain};
+ghost use Rattle.format.specs.Source.{sectorLookup, answerPart};
+ghost use Rattle.format.specs.Chain.{chainLookup};
 ghost use Rattle.format.specs.Collapse.{normal, normalOutput, collapse, collapseOutput};
-ghost use Rattle.format.specs.Answers.{head, verdict, located, chained, part, written};
+ghost use Rattle.format.specs.Answers.{headerNumbers, verdict, located, chained, written};
 use format::Head;
 use format::Located;
 use format::Part;
@@ -24,28 +24,28 @@ pub extern "C" fn anhkhovet_check(image: &[u8]) -> Verdict
 
 #[no_mangle]
 pub extern "C" fn anhkhovet_header(image: &[u8]) -> Head
-    ensures { λ r. ⌜ r ≡ head (judge (now (image .entry))) ⌝ }
+    ensures { λ r. ⌜ r ≡ headerNumbers (judge (now (image .entry))) ⌝ }
 {
     answers::head_of(header::judge(image))
 }
 
 #[no_mangle]
 pub extern "C" fn anhkhovet_lookup(image: &[u8], sector: u64) -> Located
-    ensures { λ r. ⌜ r ≡ located (lookup (now (image .entry)) sector) ⌝ }
+    ensures { λ r. ⌜ r ≡ located (sectorLookup (now (image .entry)) sector) ⌝ }
 {
     answers::located_of(lookup::lookup(image, sector))
 }
 
 #[no_mangle]
 pub extern "C" fn anhkhovet_chain(layers: &[u8], lengths: &[u64], sector: u64) -> Located
-    ensures { λ r. ⌜ r ≡ chained (chain (now (layers .entry)) (now (lengths .entry)) sector) ⌝ }
+    ensures { λ r. ⌜ r ≡ chained (chainLookup (now (layers .entry)) (now (lengths .entry)) sector) ⌝ }
 {
     answers::chained_of(chain::chain(layers, lengths, sector))
 }
 
 #[no_mangle]
 pub extern "C" fn anhkhovet_read(image: &[u8], sector: u64) -> Part
-    ensures { λ r. ⌜ r ≡ part (lookup (now (image .entry)) sector) ⌝ }
+    ensures { λ r. ⌜ r ≡ answerPart (sectorLookup (now (image .entry)) sector) ⌝ }
 {
     lookup::part(image, sector)
 }

@@ -6,7 +6,9 @@ use lib.Dec.{eqb}
 use Rattle.base.specs.Pick.{pick}
 use Rattle.format.specs.Answers.{number, place, verdict, located, chained, written}
 use Rattle.format.specs.declared.Refusal.{Refusal}
-use Rattle.format.specs.declared.Refusal.the-variants.{TooShort, Magic, Version, Newline, Flags, Sizes, Footer, Misplaced, GrainPast, Marker, CopiesDiffer, SharedSector, SectorPast, TooLittleRoom, LayersDiffer, NotCollapsible, LayerLengths}
+use Rattle.format.specs.declared.Refusal.the-variants.{TooShort, Magic, Version, Newline, Flags, Sizes, Footer, Misplaced}
+use Rattle.format.specs.declared.Refusal.the-variants.{GrainPast, Marker, CopiesDiffer, SharedSector, SectorPast}
+use Rattle.format.specs.declared.Refusal.the-variants.{TooLittleRoom, LayersDiffer, NotCollapsible, LayerLengths}
 use Rattle.format.specs.declared.Source.{Source}
 use Rattle.format.specs.declared.Source.the-variants.{Absent, Zero, Stored, Packed}
 use Rattle.format.specs.declared.CheckAnswer.{CheckAnswer}
@@ -95,7 +97,8 @@ chainOf l =
     pick (eqb (l .number) 0) (foundIn (record { layer = l .layer; source = sourceIs l }))
     (notFoundIn (l .layer) (refusalOf (l .number) (l .place)))
 
-found-back : (layer : ℕ) (s : Source) → chainOf (chained (foundIn (record { layer = layer; source = s }))) ≡ foundIn (record { layer = layer; source = s })
+found-back : (layer : ℕ) (s : Source) → chainOf (chained (foundIn (record { layer = layer; source = s })))
+    ≡ foundIn (record { layer = layer; source = s })
 unfolding pick
 found-back layer Absent = refl
 found-back layer Zero = refl

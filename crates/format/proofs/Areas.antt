@@ -1,6 +1,6 @@
 -- What areas hold, and that `meet` says whether a sector lies in two of a list.
 use Prim.Native.Nat.{ℕ, _+_, _≤_, _<_, min, max}
-use mathlib.Core.Path.{_≡_, refl, sym, _∙_}
+use mathlib.Core.Path.{_≡_, refl}
 use mathlib.Core.List.{List, [], _∷_, _++_}
 use mathlib.Core.Logic.{_⊎_, inl, inr, ⊎-elim}
 use mathlib.Core.Bool.{Bool, true, false, _||_, false≢true}
@@ -13,37 +13,39 @@ use Rattle.format.specs.Areas.{Area, holds, holders, Apart, shares, shar
 
 -- ---- one area
 module _ (a : Area) (x : ℕ) where
-  pub holds-in : a .first ≤ x → x < a .first + a .count → holds a x ≡ 1
+  pub holds-in : a .first ≤ x → x < a .first + a .sectorCount → holds a x ≡ 1
   unfolding holds pick
-  holds-in l u = rw (le-leb (a .first) x l, lt-ltb x (a .first + a .count) u)
+  holds-in l u = rw (le-leb (a .first) x l, lt-ltb x (a .first + a .sectorCount) u)
 
   pub holds-under : x < a .first → holds a x ≡ 0
   unfolding holds pick
   holds-under u = rw (lt-leb (a .first) x u)
 
-  pub holds-over : a .first + a .count ≤ x → holds a x ≡ 0
+  pub holds-over : a .first + a .sectorCount ≤ x → holds a x ≡ 0
   unfolding holds pick
   holds-over l =
-      ⊎-elim (λ u. holds-under u) (λ f. rw (le-leb (a .first) x f, le-ltb x (a .first + a .count) l)) (lt-or-ge x (a .first))
+      ⊎-elim (λ u. holds-under u) (λ f. rw (le-leb (a .first) x f, le-ltb x (a .first + a .sectorCount) l))
+      (lt-or-ge x (a .first))
 
   -- a sector lies in the area, or not
-  pub holds-or : ((a .first ≤ x) × (x < a .first + a .count) × (holds a x ≡ 1)) ⊎ (holds a x ≡ 0)
+  pub holds-or : ((a .first ≤ x) × (x < a .first + a .sectorCount) × (holds a x ≡ 1)) ⊎ (holds a x ≡ 0)
   holds-or =
       ⊎-elim (λ u. inr (holds-under u))
-      (λ l. ⊎-elim (λ u. inl (l, u, holds-in l u)) (λ o. inr (holds-over o)) (lt-or-ge x (a .first + a .count)))
+      (λ l. ⊎-elim (λ u. inl (l, u, holds-in l u)) (λ o. inr (holds-over o)) (lt-or-ge x (a .first + a .sectorCount)))
       (lt-or-ge x (a .first))
 
 -- ---- two areas, and one and many
 shares-yes : (a b : Area) → shares a b ≡ true → (x : ℕ) × (holds a x ≡ 1) × (holds b x ≡ 1)
 unfolding shares
 shares-yes a b e =
-    let h : max (a .first) (b .first) < min (a .first + a .count) (b .first + b .count) = omega (arith, ltb-true) in
+    let h : max (a .first) (b .first) < min (a .first + a .sectorCount) (b .first + b .sectorCount) = omega (arith, ltb-true) in
     (max (a .first) (b .first), holds-in a _ (omega arith) (omega arith), holds-in b _ (omega arith) (omega arith))
 
 shares-no : (a b : Area) (x : ℕ) → shares a b ≡ false → holds a x + holds b x ≤ 1
 unfolding shares
 shares-no a b x e =
-    let h : min (a .first + a .count) (b .first + b .count) ≤ max (a .first) (b .first) = omega (arith, ltb-false) in
+    let h : min (a .first + a .sectorCount) (b .first + b .sectorCount) ≤ max (a .first) (b .first) =
+    omega (arith, ltb-false) in
     ⊎-elim
     (λ y. ⊎-elim (λ z. absurd (omega arith)) (λ z. omega arith) (holds-or b x))
     (λ y. ⊎-elim (λ z. omega arith) (λ z. omega arith) (holds-or b x))
@@ -110,5 +112,5 @@ unfolding runsPast holders
 past-none f [] e x h = refl
 past-none f (a ∷ l) e x h =
     let n = or-no (endsPast f a) (runsPast f l) e in
-    let k : a .first + a .count ≤ f = omega (arith, ltb-false) in
+    let k : a .first + a .sectorCount ≤ f = omega (arith, ltb-false) in
     omega (arith, holds-over a x (omega arith), past-none f l (n .1) x h)

@@ -61,5 +61,6 @@ module _ (s : List ℕ) where
           grains = in-rows f (grainsOf h) (grainArea s h) (none-lowest (grainPast s h) (grainsOf h) n);
         }
 
-    pub all-in-file : judge s ≡ Known h → misplaced s h ≡ false → lowestPast s h ≡ None → runsPast (fileSectors s) (areas s h) ≡ false
+    pub all-in-file : judge s ≡ Known h → misplaced s h ≡ false → lowestPast s h ≡ None → runsPast (fileSectors s) (areas s h)
+        ≡ false
     all-in-file e m n = in-groups s h (inside-all (judged-front e) m n)

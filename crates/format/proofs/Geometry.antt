@@ -1,8 +1,8 @@
 -- Grains, tables and directory entries, for any number of entries per table.
 use Prim.Native.Nat.{ℕ, _*_, _/_, _≤_, _<_}
 use native.Mathlib.Omega.{arith}
-use native.Mathlib.Nat.{div-mul-le-self, div-lt-iff-lt-mul, mul-pos}
-use Rattle.base.proofs.Rounding.{ceil-covers, ceil-most, ceil-above, ceil-groups}
+use native.Mathlib.Nat.{div-mul-le-self, lt-of-mul-lt-mul-right, mul-assoc, mul-pos}
+use Rattle.base.proofs.Rounding.{ceil-most, ceil-above, below-ceil, ceil-groups}
 use Rattle.format.specs.Geometry.{grains, directoryEntries, directorySectors}
 
 module _ (capacity size : ℕ) (some : 1 ≤ size) where
@@ -22,9 +22,19 @@ module _ (capacity size : ℕ) (some : 1 ≤ size) where
     unfolding grains directoryEntries
     entries-enough = omega (arith, ceil-groups capacity size perTable some one)
 
+    -- a directory entry is in use exactly where its first grain is a grain
+    pub table-used : (d : ℕ) → d * perTable < grains capacity size → d < directoryEntries capacity perTable size
+    table-used d h = lt-of-mul-lt-mul-right perTable (omega (arith, entries-enough))
+
+    pub first-grain : (d : ℕ) → d < directoryEntries capacity perTable size → d * perTable < grains capacity size
+    unfolding directoryEntries grains
+    first-grain d h =
+        ceil-above capacity size some (d * perTable)
+        (rw mul-assoc (below-ceil capacity (perTable * size) (mul-pos one some) d h))
+
     -- so a grain's directory entry is in use
     pub entry-used : (g : ℕ) → g < grains capacity size → g / perTable < directoryEntries capacity perTable size
-    entry-used g h = div-lt-iff-lt-mul {k = perTable} {x = g} one .1 (omega (arith, entries-enough))
+    entry-used g h = table-used (g / perTable) (omega (arith, div-mul-le-self g perTable))
 
 -- a directory has room for its entries
 pub directory-room : (n : ℕ) → 4 * n ≤ 512 * directorySectors n

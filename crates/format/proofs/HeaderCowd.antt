@@ -32,7 +32,7 @@ module _ (s : List ℕ) (k : CowdFields) where
         version = eqb-true _ _ (not-false _ (a .0));
         capacity = capacity-kept (k .capacity) (z .0);
         grainSize = grain-size-kept 1 (k .«grain_size») (z .1);
-        count = ltb-false _ _ (d .0);
+        storedCount = ltb-false _ _ (d .0);
       }
 
   module _ (r : CowdRules s k) where
@@ -44,7 +44,7 @@ module _ (s : List ℕ) (k : CowdFields) where
     kept-cowd =
         pick-else _ (Found Version) _ (rw (eq-eqb (k .version) 1 (r .version)))
         ∙ pick-else _ (Found Sizes) _ cowd-sizes
-        ∙ pick-else _ (Found Sizes) _ (le-ltb _ _ (r .count))
+        ∙ pick-else _ (Found Sizes) _ (le-ltb _ _ (r .storedCount))
 
     pub cowd-magic : sameAt s 0 cowdMagic ≡ true
     cowd-magic = bytes-same s 0 cowdMagic (r .magic)

@@ -13,7 +13,8 @@ use Rattle.base.specs.Strings.{sameAt}
 use Rattle.base.proofs.Steps.{and-yes, true-or-false}
 use Rattle.format.specs.Kdmv.{kdmvMagic, kdmvFields, atEnd, kdmvFault, footerBroken}
 use Rattle.format.specs.Cowd.{cowdMagic, cowdFields, cowdFault}
-use Rattle.format.specs.Header.{kdmvHeaderOf, cowdHeaderOf, headerOf, unlessFault, withFooter, judgeKdmv, judgeCowd, judge}
+use Rattle.format.specs.Header.{kdmvHeaderOf, cowdHeaderOf, headerOf, unlessFault, withFooter, judgeKdmv, judgeCowd}
+use Rattle.format.specs.Header.{judge}
 use Rattle.format.specs.Accepted.{KdmvRules, CowdRules}
 use Rattle.format.specs.declared.Header.{Header}
 use Rattle.format.specs.declared.Fault.{Fault}
@@ -34,7 +35,8 @@ unfolding unlessFault
 known-fault None a h e = (refl, e)
 known-fault (Found r) a h e = let z : _≡_ {A = ℕ} 0 1 = cc in absurd (omega arith)
 
-known-footer : (s : List ℕ) (end : Bool) (l h : Header) → withFooter s end l ≡ Known h → (end ≡ true → footerBroken s ≡ false) × (l ≡ h)
+known-footer : (s : List ℕ) (end : Bool) (l h : Header) → withFooter s end l ≡ Known h → (end ≡ true → footerBroken s ≡ false)
+    × (l ≡ h)
 unfolding withFooter pick
 known-footer s true l h e =
     let b = known-past (footerBroken s) Footer (Known l) h e in (λ t. b .0, known-same l h (b .1))
@@ -57,7 +59,8 @@ one-magic s e =
 
 -- ---- each kind
 module _ (s : List ℕ) where
-  kdmv-judged : (h : Header) → sameAt s 0 kdmvMagic ≡ true → judgeKdmv s ≡ Known h → (KdmvRules s (kdmvFields s)) × (h ≡ kdmvHeaderOf s)
+  kdmv-judged : (h : Header) → sameAt s 0 kdmvMagic ≡ true → judgeKdmv s ≡ Known h → (KdmvRules s (kdmvFields s))
+      × (h ≡ kdmvHeaderOf s)
   unfolding judgeKdmv kdmvFields
   kdmv-judged h m e =
       let a = known-past (ltb (length s) 512) _ _ h e in
@@ -65,7 +68,8 @@ module _ (s : List ℕ) where
       let d = known-footer s (atEnd (kdmvFields s)) _ h (b .1) in
       (kdmv-kept s (kdmvFields s) refl (ltb-false _ _ (a .0)) m (b .0) (d .0), sym (d .1))
 
-  cowd-judged : (h : Header) → sameAt s 0 cowdMagic ≡ true → judgeCowd s ≡ Known h → (CowdRules s (cowdFields s)) × (h ≡ cowdHeaderOf s)
+  cowd-judged : (h : Header) → sameAt s 0 cowdMagic ≡ true → judgeCowd s ≡ Known h → (CowdRules s (cowdFields s))
+      × (h ≡ cowdHeaderOf s)
   unfolding judgeCowd
   cowd-judged h m e =
       let a = known-past (ltb (length s) 2048) _ _ h e in
@@ -82,9 +86,11 @@ module _ (s : List ℕ) where
       ⊎-elim
       (λ k. inl (kdmv-judged h k (sym (pick-then (sameAt s 0 kdmvMagic) _ _ k) ∙ a .1)))
       (λ n.
-      let b : pick (sameAt s 0 cowdMagic) (judgeCowd s) (Refused Magic) ≡ Known h = sym (pick-else (sameAt s 0 kdmvMagic) _ _ n) ∙ a .1 in
+      let b : pick (sameAt s 0 cowdMagic) (judgeCowd s) (Refused Magic) ≡ Known h =
+      sym (pick-else (sameAt s 0 kdmvMagic) _ _ n) ∙ a .1 in
       inr (⊎-elim (λ c. cowd-judged h c (sym (pick-then (sameAt s 0 cowdMagic) _ _ c) ∙ b))
-      (λ m. let q : Refused Magic ≡ Known h = sym (pick-else (sameAt s 0 cowdMagic) _ _ m) ∙ b in let z : _≡_ {A = ℕ} 0 1 = cc in absurd (omega arith))
+      (λ m. let q : Refused Magic ≡ Known h = sym (pick-else (sameAt s 0 cowdMagic) _ _ m)
+      ∙ b in let z : _≡_ {A = ℕ} 0 1 = cc in absurd (omega arith))
       (true-or-false (sameAt s 0 cowdMagic))))
       (true-or-false (sameAt s 0 kdmvMagic))
 

@@ -10,7 +10,8 @@ use borrow.Author.Tests.{ltb-false, le-ltb, eqb-true, eqb-false, eq-eqb, ne-eqb,
 use Rattle.base.specs.Strings.{sameAt}
 use Rattle.base.proofs.Steps.{or-no}
 use Rattle.base.proofs.Strings.{same-bytes, bytes-same}
-use Rattle.format.specs.Kdmv.{kdmvMagic, newlineBytes, versionBroken, has, newlineBroken, atEnd, otherFlags, flagsBroken, capacityBroken, grainSizeBroken, kdmvSizesBroken, kdmvFault, footerBroken}
+use Rattle.format.specs.Kdmv.{kdmvMagic, newlineBytes, versionBroken, flagSet, newlineBroken, atEnd, otherFlags}
+use Rattle.format.specs.Kdmv.{flagsBroken, capacityBroken, grainSizeBroken, kdmvSizesBroken, kdmvFault, footerBroken}
 use Rattle.format.specs.Accepted.{KdmvRules}
 use Rattle.format.specs.declared.KdmvFields.{KdmvFields}
 use Rattle.format.specs.declared.Fault.the-variants.{None, Found}
@@ -27,16 +28,16 @@ module _ (k : KdmvFields) where
   record FlagRules : Type 0 where
     others : otherFlags (k .flags) ≡ false
     compression : not (eqb (k .compression) (k .flags / 0x10000 % 2)) ≡ false
-    markers : (has (k .flags) 0x20000 && not (has (k .flags) 0x10000)) ≡ false
-    redundant : (has (k .flags) 0x2 && eqb (k .redundant) 0) ≡ false
-    end : (atEnd k && not (has (k .flags) 0x20000)) ≡ false
+    markers : (flagSet (k .flags) 0x20000 && not (flagSet (k .flags) 0x10000)) ≡ false
+    redundant : (flagSet (k .flags) 0x2 && eqb (k .redundant) 0) ≡ false
+    end : (atEnd k && not (flagSet (k .flags) 0x20000)) ≡ false
 
   flag-rules : flagsBroken k ≡ false → FlagRules
   flag-rules e =
       let a = or-no (otherFlags (k .flags)) _ e in
       let b = or-no (not (eqb (k .compression) (k .flags / 0x10000 % 2))) _ (a .1) in
-      let d = or-no (has (k .flags) 0x20000 && not (has (k .flags) 0x10000)) _ (b .1) in
-      let g = or-no (has (k .flags) 0x2 && eqb (k .redundant) 0) _ (d .1) in
+      let d = or-no (flagSet (k .flags) 0x20000 && not (flagSet (k .flags) 0x10000)) _ (b .1) in
+      let g = or-no (flagSet (k .flags) 0x2 && eqb (k .redundant) 0) _ (d .1) in
       record { others = a .0; compression = b .0; markers = d .0; redundant = g .0; end = g .1 }
 
   rules-flag : FlagRules → flagsBroken k ≡ false
@@ -44,7 +45,8 @@ module _ (k : KdmvFields) where
 
 -- ---- all of them, where the newline field tells of the image
 module _ (s : List ℕ) (k : KdmvFields) (newline : k .newline ≡ sameAt s 73 newlineBytes) where
-  pub kdmv-kept : 512 ≤ length s → sameAt s 0 kdmvMagic ≡ true → kdmvFault k ≡ None → (atEnd k ≡ true → footerBroken s ≡ false) → KdmvRules s k
+  pub kdmv-kept : 512 ≤ length s → sameAt s 0 kdmvMagic ≡ true → kdmvFault k ≡ None
+      → (atEnd k ≡ true → footerBroken s ≡ false) → KdmvRules s k
   unfolding kdmvFault
   kdmv-kept long magic e footer =
       let a = none-found (versionBroken k) _ _ e in

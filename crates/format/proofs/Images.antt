@@ -46,8 +46,8 @@ sample =
     ++ leBytes 4 256
     ++ zeros (2048 - 12 + 512 * 353)
 
--- capacity 16, grain size 8: the directory at sector 1, the table at 2 with the entries of grains 0 and 1 and `unused` in entry 2; `long`
--- sectors from 6 on
+-- capacity 16, grain size 8: the directory at sector 1, the table at 2 with the entries of grains 0 and 1 and `unused` in
+-- entry 2; `long` sectors from 6 on
 abbrev pub small : ℕ → ℕ → ℕ → ℕ → List ℕ
 small zeroth first unused long =
     kdmvSector 16 8 1

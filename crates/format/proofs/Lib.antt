@@ -14,5 +14,10 @@ pub mod HeaderFooter
 pub mod HeaderKdmv
 pub mod HeaderCowd
 pub mod HeaderJudged
+pub mod HeaderRoom
 pub mod Places
 pub mod Filed
+pub mod Passed
+pub mod Grains
+pub mod Lengths
+pub mod Layers

@@ -34,3 +34,9 @@ module _ (p : ℕ → Bool) where
 
   pub lowest-none : (n : ℕ) → ((k : ℕ) → k < n → p k ≡ false) → lowestFrom p 0 n ≡ None
   lowest-none n h = from-none 0 n (λ k l. rw zero-add (h k l))
+
+-- only grains below n count
+pub lowest-same : (p q : ℕ → Bool) (i n : ℕ) → ((k : ℕ) → k < i + n → p k ≡ q k) → lowestFrom p i n ≡ lowestFrom q i n
+unfolding lowestFrom
+lowest-same p q i zero h = refl
+lowest-same p q i (suc n) h = rw (h i (omega arith), lowest-same p q (i + 1) n (λ k l. h k (omega arith)))

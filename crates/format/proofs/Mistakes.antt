@@ -2,7 +2,7 @@
 use Prim.Native.Nat.{ℕ, _+_, _<_}
 use mathlib.Core.Path.{_≡_, refl}
 use mathlib.Core.List.{List, [], _∷_}
-use mathlib.Core.Bool.{true, false, not}
+use mathlib.Core.Bool.{true, false}
 use native.Mathlib.Omega.{arith}
 use borrow.Author.Tests.{eqb-true, lt-ltb}
 use Rattle.base.specs.Pick.{pick}
@@ -11,7 +11,7 @@ use Rattle.format.specs.Entries.{entryAt, meaning, grainEntry, grainSect
 use Rattle.format.specs.Areas.{area, named, grainArea, runsPast}
 use Rattle.format.specs.Check.{tablesDiffer}
 use Rattle.format.specs.Chain.{unlessAbsent}
-use Rattle.format.specs.Grains.{Grain, zeroed, onto}
+use Rattle.format.specs.Grains.{Grain, zeroed, upperUnlessAbsent}
 use Rattle.format.specs.declared.Header.{Header}
 use Rattle.format.specs.declared.Entry.the-variants.{Zero as noSector, Sector}
 use Rattle.format.specs.declared.Source.the-variants.{Zero}
@@ -34,7 +34,8 @@ unfolding meaning pick
 one-sector = refl
 
 -- giving the last grain a short area: each stored grain takes grain-size sectors, whatever capacity is
-pub grain-whole : (s : List ℕ) (h : Header) (g e : ℕ) → h .packed ≡ false → grainEntry s h g ≡ Sector e → grainArea s h g ≡ area e (h .«grain_size») ∷ []
+pub grain-whole : (s : List ℕ) (h : Header) (g e : ℕ) → h .packed ≡ false → grainEntry s h g ≡ Sector e → grainArea s h g
+    ≡ area e (h .«grain_size») ∷ []
 unfolding named grainSectors pick
 grain-whole s h g e p q = rw (q, p)
 
@@ -44,10 +45,11 @@ unfolding runsPast
 past-exact f first count h = rw (lt-ltb f (first + count) h)
 
 -- taking the parent for a grain marked zero: not in a collapse, and not in a chain
-pub zero-hides : (lower : Grain) → onto lower zeroed ≡ zeroed
-unfolding onto
+pub zero-hides : (lower : Grain) → upperUnlessAbsent lower zeroed ≡ zeroed
+unfolding upperUnlessAbsent
 zero-hides lower = refl
 
-pub zero-serves : (layer : ℕ) (below : ChainAnswer) → unlessAbsent layer (foundIn Zero) below ≡ Found (record { layer = layer; source = Zero })
+pub zero-serves : (layer : ℕ) (below : ChainAnswer) → unlessAbsent layer (foundIn Zero) below
+    ≡ Found (record { layer = layer; source = Zero })
 unfolding unlessAbsent
 zero-serves layer below = refl

@@ -31,7 +31,8 @@ pub none-found : (b : Bool) (r : Refusal) (y : Fault) → pick b (Found r) y ≡
 none-found b r y e = passed b (Found r) y None (λ q. let z : _≡_ {A = ℕ} 0 1 = cc in omega arith) e
 
 -- a header that is known was not refused here
-pub known-past : (b : Bool) (r : Refusal) (y : HeaderAnswer) (h : Header) → pick b (Refused r) y ≡ Known h → (b ≡ false) × (y ≡ Known h)
+pub known-past : (b : Bool) (r : Refusal) (y : HeaderAnswer) (h : Header) → pick b (Refused r) y ≡ Known h → (b ≡ false)
+    × (y ≡ Known h)
 known-past b r y h e = passed b (Refused r) y (Known h) (λ q. let z : _≡_ {A = ℕ} 0 1 = cc in omega arith) e
 
 -- of rules that are true where broken, none is

@@ -1,131 +1,221 @@
--- Entries past the last grain are not judged: two images that agree in the entries in use are checked alike.
-use Prim.Native.Nat.{ℕ, zero, suc, _+_, _-_, _*_, _/_, _%_, _≤_, _<_, min}
-use mathlib.Core.Path.{_≡_, refl, sym, ap, _∙_}
-use mathlib.Core.List.{List, _++_}
-use mathlib.Core.Bool.{Bool, not, _||_}
+-- What the check does not use: two images that agree in length and, where these lie in the file, in the entries in use and in
+-- the markers of packed grains are checked alike. Entries past the last grain are not judged.
+use Prim.Native.Nat.{ℕ, _+_, _/_, _%_, _≤_, _<_}
+use mathlib.Core.Path.{_≡_, refl, ap}
+use mathlib.Core.List.{List}
+use mathlib.Core.Bool.{Bool, true, false, _||_}
 use native.Mathlib.Omega.{arith}
 use native.Mathlib.Nat.{div-add-mod', mod-lt}
 use lib.Dec.{eqb}
 use lib.ListN.{length}
+use borrow.Author.Tests.{eqb-false}
 use Rattle.base.specs.Pick.{pick}
-use Rattle.base.specs.Rows.{rows}
+use Rattle.base.proofs.Steps.{pick-both, and-both}
 use Rattle.base.proofs.Rows.{rows-same}
 use Rattle.format.specs.Geometry.{fileSectors}
-use Rattle.format.specs.Header.{grainsOf, entriesOf}
-use Rattle.format.specs.Entries.{entryAt, meaning, inTable, tableAt, entryOf, grainEntry, entriesInUse, markerFirst, markerSize, grainSectors, markerBroken, some}
-use Rattle.format.specs.Areas.{Area, named, tableAreas, primaryTables, redundantTables, grainArea, grainAreas, areas}
-use Rattle.format.specs.Check.{misplaced, lowestFrom, markerAt, lowestPast, lowestBadMarker, copyDiffers, copiesDiffer, checkApart, checkCopies, checkGrains, checkLayout}
+use Rattle.format.specs.Header.{grainsOf, directoryEntriesOf}
+use Rattle.format.specs.Entries.{entryAt, meaning, inTable, meaningAt, entryOfGrain, grainEntry, entriesInUse}
+use Rattle.format.specs.Entries.{markerFirst, markerSize, grainSectors, markerBroken}
+use Rattle.format.specs.Areas.{Area, named, tableAreas, primaryTables, redundantTables, grainArea, areas, runsPast}
+use Rattle.format.specs.Check.{directoryMisplaced, redundantDirectoryMisplaced, entryDiffers, misplaced, grainPast}
+use Rattle.format.specs.Check.{markerBrokenAt, lowestPast, lowestBadMarker, copyDiffers, copiesDiffer, unlessGrain}
+use Rattle.format.specs.Check.{checkApart, checkCopies, checkGrains, checkLayout}
 use Rattle.format.specs.declared.Header.{Header}
 use Rattle.format.specs.declared.Entry.{Entry}
 use Rattle.format.specs.declared.Entry.the-variants.{Absent, Zero, Sector}
-use Rattle.format.specs.declared.Lowest.the-variants.{Grain}
+use Rattle.format.specs.declared.Lowest.{Lowest}
+use Rattle.format.specs.declared.Lowest.the-variants.{None, Grain}
+use Rattle.format.specs.declared.Refusal.{Refusal}
+use Rattle.format.specs.declared.CheckAnswer.{CheckAnswer}
 use Rattle.format.proofs.Geometry.{entry-used}
-use Rattle.format.proofs.Entries.{some-same}
+use Rattle.format.proofs.Entries.{some-same, sectors-same, some-sectors, past-same}
+use Rattle.format.proofs.Inside.{table-in, named-in}
+use Rattle.format.proofs.LowestGrain.{none-lowest, lowest-same}
+use Rattle.format.proofs.Places.{Places, places-kept, primary-in, directory-in, redundant-in, redundant-tables}
 
--- only grains below n count
-lowest-same : (p q : ℕ → Bool) (g n : ℕ) → ((k : ℕ) → k < n → p (g + k) ≡ q (g + k)) → lowestFrom p g n ≡ lowestFrom q g n
-unfolding lowestFrom
-lowest-same p q g zero h = refl
-lowest-same p q g (suc n) h =
-    let e : p g ≡ q g = rw (omega-zero g) at (h 0 (omega arith)) in
-    rw (e, lowest-same p q (g + 1) n (λ k l. let z : g + 1 + k ≡ g + suc k = omega arith in rw z (h (suc k) (omega arith))))
-  where
-    omega-zero : (g : ℕ) → g + 0 ≡ g
-    omega-zero g = omega arith
+-- the first n entries of a directory or table
+abbrev pub SameEntries : List ℕ → List ℕ → ℕ → ℕ → Type 0
+SameEntries s t u n = (k : ℕ) → k < n → entryAt s u k ≡ entryAt t u k
 
--- what is read of an image of a header: directory and table entries in use, and the markers of its grains
+-- a directory's entries in use, and those of its tables, where they lie in the file
+pub record SameTables (s t : List ℕ) (h : Header) (directory : ℕ) : Type 0 where
+  pub entries : directory + h .«directory_sectors» ≤ fileSectors s → SameEntries s t directory (directoryEntriesOf h)
+  pub tables : (d u : ℕ) → d < directoryEntriesOf h → meaningAt s (h .«one_is_zero») directory d ≡ Sector u
+      → u + h .«table_sectors» ≤ fileSectors s → SameEntries s t u (entriesInUse h d)
+
+-- all that is read of an image of a header: both directories, if there are two, and the markers of packed grains
 pub record SameInUse (s t : List ℕ) (h : Header) : Type 0 where
   pub long : length s ≡ length t
-  pub directory : (d : ℕ) → d < entriesOf h → entryAt s (h .directory) d ≡ entryAt t (h .directory) d
-  pub redundant : (d : ℕ) → d < entriesOf h → entryAt s (h .redundant) d ≡ entryAt t (h .redundant) d
-  pub tables : (d k u : ℕ) → d < entriesOf h → k < entriesInUse h d → tableAt s (h .«one_is_zero») (h .directory) d ≡ Sector u → entryAt s u k ≡ entryAt t u k
-  pub copies : (d k u : ℕ) → d < entriesOf h → k < entriesInUse h d → tableAt s (h .«one_is_zero») (h .redundant) d ≡ Sector u → entryAt s u k ≡ entryAt t u k
-  pub sizes : (g e : ℕ) → g < grainsOf h → grainEntry s h g ≡ Sector e → markerSize s e ≡ markerSize t e
-  pub firsts : (g e : ℕ) → g < grainsOf h → grainEntry s h g ≡ Sector e → markerFirst s e ≡ markerFirst t e
+  pub primary : SameTables s t h (h .directory)
+  pub copies : (h .redundant ≡ 0 → ⊥) → SameTables s t h (h .redundant)
+  pub markers : h .packed ≡ true → (g e : ℕ) → g < grainsOf h → grainEntry s h g ≡ Sector e → e < fileSectors s
+      → (markerSize s e ≡ markerSize t e) × (markerFirst s e ≡ markerFirst t e)
 
-in-table-same : (s t : List ℕ) (oneIsZero : Bool) (k : ℕ) (d : Entry) → ((u : ℕ) → d ≡ Sector u → entryAt s u k ≡ entryAt t u k) → inTable s oneIsZero k d ≡ inTable t oneIsZero k d
-unfolding inTable
-in-table-same s t oneIsZero k Absent h = refl
-in-table-same s t oneIsZero k Zero h = refl
-in-table-same s t oneIsZero k (Sector u) h = ap (meaning oneIsZero) (h u refl)
+-- ---- what is said of an entry differs only where it names a sector
+by-entry : {A : Type 0} (p q : Entry → A) → p Absent ≡ q Absent → p Zero ≡ q Zero → (d : Entry)
+    → ((e : ℕ) → d ≡ Sector e → p (Sector e) ≡ q (Sector e)) → p d ≡ q d
+by-entry p q a z Absent f = a
+by-entry p q a z Zero f = z
+by-entry p q a z (Sector e) f = f e refl
 
-named-same : (p q : ℕ → ℕ) (d : Entry) → ((e : ℕ) → d ≡ Sector e → p e ≡ q e) → named p d ≡ named q d
-unfolding named
-named-same p q Absent h = refl
-named-same p q Zero h = refl
-named-same p q (Sector e) h = rw (h e refl)
-
-marker-same : (s t : List ℕ) (size g : ℕ) (d : Entry) → ((e : ℕ) → d ≡ Sector e → markerBroken s size g e ≡ markerBroken t size g e) → markerAt s size g d ≡ markerAt t size g d
-unfolding markerAt
-marker-same s t size g Absent h = refl
-marker-same s t size g Zero h = refl
-marker-same s t size g (Sector e) h = h e refl
-
-copy-same : (s t : List ℕ) (n : ℕ) (a b : Entry) → ((k u : ℕ) → k < n → a ≡ Sector u → entryAt s u k ≡ entryAt t u k) → ((k u : ℕ) → k < n → b ≡ Sector u → entryAt s u k ≡ entryAt t u k) → copyDiffers s n a b ≡ copyDiffers t n a b
+copy-same : (s t : List ℕ) (n : ℕ) (a b : Entry) → ((u : ℕ) → a ≡ Sector u → SameEntries s t u n)
+    → ((u : ℕ) → b ≡ Sector u → SameEntries s t u n) → copyDiffers s n a b ≡ copyDiffers t n a b
 unfolding copyDiffers
-copy-same s t n Absent Absent f g = refl
-copy-same s t n Absent Zero f g = refl
-copy-same s t n Absent (Sector u) f g = refl
-copy-same s t n Zero Absent f g = refl
-copy-same s t n Zero Zero f g = refl
-copy-same s t n Zero (Sector u) f g = refl
-copy-same s t n (Sector u) Absent f g = refl
-copy-same s t n (Sector u) Zero f g = refl
-copy-same s t n (Sector u) (Sector v) f g = some-same _ _ n (λ k l. rw (f k u l refl, g k v l refl))
+copy-same s t n a b f g =
+    by-entry (λ x. copyDiffers s n x b) (λ x. copyDiffers t n x b)
+    (by-entry (copyDiffers s n Absent) (copyDiffers t n Absent) refl refl b (λ v e. refl))
+    (by-entry (copyDiffers s n Zero) (copyDiffers t n Zero) refl refl b (λ v e. refl))
+    a
+    (λ u i.
+    by-entry (copyDiffers s n (Sector u)) (copyDiffers t n (Sector u)) refl refl b
+    (λ v j. some-same _ _ n (λ k l. rw (f u i k l, g v j k l))))
 
-module _ (s t : List ℕ) (h : Header) (one : 1 ≤ h .«grain_size») (per : 1 ≤ h .«entries_per_table») (same : SameInUse s t h) where
-  primary-same : (d : ℕ) → d < entriesOf h → tableAt s (h .«one_is_zero») (h .directory) d ≡ tableAt t (h .«one_is_zero») (h .directory) d
-  primary-same d l = ap (meaning (h .«one_is_zero»)) (same .directory d l)
+unless-same : (l : Lowest) (refusal : ℕ → Refusal) (a b : CheckAnswer) → (l ≡ None → a ≡ b)
+    → unlessGrain l refusal a ≡ unlessGrain l refusal b
+unfolding unlessGrain
+unless-same None refusal a b f = f refl
+unless-same (Grain g) refusal a b f = refl
 
-  redundant-same : (d : ℕ) → d < entriesOf h → tableAt s (h .«one_is_zero») (h .redundant) d ≡ tableAt t (h .«one_is_zero») (h .redundant) d
-  redundant-same d l = ap (meaning (h .«one_is_zero»)) (same .redundant d l)
+-- ---- 8: a directory is read where it lies in the file
+module _ (s t : List ℕ) (h : Header) (directory : ℕ) (both : SameTables s t h directory)
+    (i : directory + h .«directory_sectors» ≤ fileSectors s) where
+  table-same : (d : ℕ) → d < directoryEntriesOf h → meaningAt s (h .«one_is_zero») directory d
+      ≡ meaningAt t (h .«one_is_zero») directory d
+  table-same d l = ap (meaning (h .«one_is_zero»)) (both .entries i d l)
 
-  entry-same : (g : ℕ) → g < grainsOf h → grainEntry s h g ≡ grainEntry t h g
-  unfolding entryOf
-  entry-same g l =
-      let d = g / h .«entries_per_table» in
-      let used : d < entriesOf h = entry-used (h .capacity) (h .«grain_size») one (h .«entries_per_table») per g l in
-      let low : g % h .«entries_per_table» < h .«entries_per_table» = mod-lt g per in
-      let k : g % h .«entries_per_table» < entriesInUse h d = omega (arith, div-add-mod' g (h .«entries_per_table»)) in
-      rw (← primary-same d used) (in-table-same s t _ _ _ (λ u e. same .tables d _ u used k e))
+  abbrev tablesOf : List ℕ → List Area
+  tablesOf u = tableAreas u (h .«one_is_zero») (h .«table_sectors») directory (directoryEntriesOf h)
 
-  grain-same : (g : ℕ) → g < grainsOf h → grainArea s h g ≡ grainArea t h g
-  unfolding grainSectors
-  grain-same g l = rw (← entry-same g l) (named-same _ _ _ (λ e q. rw (same .sizes g e l q)))
+  tables-same : tablesOf s ≡ tablesOf t
+  tables-same = rows-same (directoryEntriesOf h) _ _ (λ d l. ap (named (λ x. h .«table_sectors»)) (table-same d l))
 
-  tables-same : (directory : ℕ) → ((d : ℕ) → d < entriesOf h → tableAt s (h .«one_is_zero») directory d ≡ tableAt t (h .«one_is_zero») directory d)
-      → tableAreas s (h .«one_is_zero») (h .«table_sectors») directory (entriesOf h) ≡ tableAreas t (h .«one_is_zero») (h .«table_sectors») directory (entriesOf h)
-  tables-same directory e = rows-same (entriesOf h) _ _ (λ d l. ap (named (λ x. h .«table_sectors»)) (e d l))
+module _ (s t : List ℕ) (h : Header) (one : 1 ≤ h .«grain_size») (per : 1 ≤ h .«entries_per_table») (same : SameInUse s t h)
+  where
+    abbrev takes : List ℕ → ℕ → ℕ
+    takes u = grainSectors u (h .packed) (h .«grain_size»)
 
-  grains-same : grainAreas s h ≡ grainAreas t h
-  grains-same = rows-same _ (grainArea s h) (grainArea t h) (λ g l. grain-same g (omega arith))
+    redundant-same : redundantDirectoryMisplaced (fileSectors s) h ≡ false → redundantTables s h ≡ redundantTables t h
+    unfolding redundantTables
+    redundant-same e =
+        pick-both _≡_ (eqb (h .redundant) 0) _ _ _ _ (λ z. refl)
+        (λ n.
+        let two = eqb-false _ _ n in
+        tables-same s t h (h .redundant) (same .copies two) (redundant-in (fileSectors s) h e two))
 
-  areas-same : areas s h ≡ areas t h
-  unfolding areas redundantTables
-  areas-same =
-      rw (same .long, tables-same (h .directory) primary-same, tables-same (h .redundant) redundant-same, grains-same)
+    -- a table of either past F
+    abbrev tablesPast : List ℕ → Bool
+    tablesPast u = pick (runsPast (fileSectors s) (primaryTables u h)) true (runsPast (fileSectors s) (redundantTables u h))
 
-  misplaced-same : misplaced s h ≡ misplaced t h
-  unfolding misplaced redundantTables
-  misplaced-same = rw (same .long, tables-same (h .directory) primary-same, tables-same (h .redundant) redundant-same)
+    tables-past-same : directoryMisplaced (fileSectors s) h ≡ false → redundantDirectoryMisplaced (fileSectors s) h ≡ false
+        → tablesPast s ≡ tablesPast t
+    tables-past-same i e =
+        rw (tables-same s t h (h .directory) (same .primary) (directory-in (fileSectors s) h i), redundant-same e)
 
-  past-same : lowestPast s h ≡ lowestPast t h
-  past-same = lowest-same _ _ 0 _ (λ k l. rw (grain-same (0 + k) (omega arith), same .long))
+    misplaced-same : misplaced s h ≡ misplaced t h
+    unfolding misplaced
+    misplaced-same =
+        rw (← same .long)
+        (pick-both _≡_ _ _ _ _ _ (λ q. refl)
+        (λ a. pick-both _≡_ _ _ _ _ _ (λ q. refl) (λ b. pick-both _≡_ _ _ _ _ _ (λ q. refl) (tables-past-same b))))
 
-  markers-same : lowestBadMarker s h ≡ lowestBadMarker t h
-  unfolding markerBroken
-  markers-same =
-      lowest-same _ _ 0 _
-      (λ k l.
-      let b : 0 + k < grainsOf h = omega arith in
-      rw (← entry-same (0 + k) b, marker-same s t (h .«grain_size») (0 + k) (grainEntry s h (0 + k)) (λ e q. rw (same .sizes (0 + k) e b q, same .firsts (0 + k) e b q))))
+    -- ---- where nothing is misplaced, tables are read in the file
+    module _ (p : Places s h) where
+      primary-same : (d : ℕ) → d < directoryEntriesOf h
+          → meaningAt s (h .«one_is_zero») (h .directory) d ≡ meaningAt t (h .«one_is_zero») (h .directory) d
+      primary-same = table-same s t h (h .directory) (same .primary) (primary-in s h p)
 
-  copies-same : copiesDiffer s h ≡ copiesDiffer t h
-  unfolding copiesDiffer
-  copies-same =
-      ap (pick (eqb (h .redundant) 0) _)
-      (some-same _ _ (entriesOf h) (λ d l. rw (← primary-same d l, ← redundant-same d l) (copy-same s t _ _ _ (λ k u b e. same .tables d k u l b e) (λ k u b e. same .copies d k u l b e))))
+      in-primary : (d u : ℕ) → d < directoryEntriesOf h → meaningAt s (h .«one_is_zero») (h .directory) d ≡ Sector u
+          → SameEntries s t u (entriesInUse h d)
+      in-primary d u l e = same .primary .tables d u l e (table-in s _ _ _ _ (p .tables) d u l e)
 
-  pub unused-free : checkLayout s h ≡ checkLayout t h
-  unfolding checkLayout checkGrains checkCopies checkApart
-  unused-free = rw (misplaced-same, past-same, markers-same, copies-same, areas-same)
+      entry-same : (g : ℕ) → g < grainsOf h → grainEntry s h g ≡ grainEntry t h g
+      unfolding entryOfGrain inTable
+      entry-same g l =
+          let d = g / h .«entries_per_table» in
+          let used : d < directoryEntriesOf h =
+          entry-used (h .capacity) (h .«grain_size») one (h .«entries_per_table») per g l in
+          let low : g % h .«entries_per_table» < h .«entries_per_table» = mod-lt g per in
+          let k : g % h .«entries_per_table» < entriesInUse h d = omega (arith, div-add-mod' g (h .«entries_per_table»)) in
+          rw (← primary-same d used)
+          (by-entry (inTable s (h .«one_is_zero») _) (inTable t (h .«one_is_zero») _) refl refl _
+          (λ u e. ap (meaning (h .«one_is_zero»)) (in-primary d u used e _ k)))
+
+      -- 9: a grain's marker is read where its sector lies in the file
+      abbrev entryPast : List ℕ → Entry → Bool
+      entryPast u d = runsPast (fileSectors s) (named (takes u) d)
+
+      lowest-past-same : lowestPast s h ≡ lowestPast t h
+      unfolding named runsPast
+      lowest-past-same =
+          lowest-same _ _ 0 _
+          (λ g l.
+          let b : g < grainsOf h = omega arith in
+          rw (← same .long, ← entry-same g b)
+          (by-entry (entryPast s) (entryPast t) refl refl _
+          (λ e q.
+          ap (λ x. x || false) (past-same (h .packed) (h .«grain_size») e one s t _ (λ i c. same .markers c g e b q i .0)))))
+
+      -- 11
+      differs-same : (h .redundant ≡ 0 → ⊥) → (d : ℕ) → d < directoryEntriesOf h → entryDiffers s h d ≡ entryDiffers t h d
+      differs-same two d l =
+          rw (
+            ← primary-same d l,
+            ← table-same s t h (h .redundant) (same .copies two) (redundant-in (fileSectors s) h (p .redundant) two) d l,
+          )
+          (copy-same s t _ _ _ (λ u e. in-primary d u l e)
+          (λ u e. same .copies two .tables d u l e (table-in s _ _ _ _ (rw (redundant-tables s h two) at (p .copies)) d u l e)))
+
+      copies-same : copiesDiffer s h ≡ copiesDiffer t h
+      unfolding copiesDiffer
+      copies-same =
+          pick-both _≡_ (eqb (h .redundant) 0) _ _ _ _ (λ z. refl)
+          (λ n. some-same _ _ (directoryEntriesOf h) (differs-same (eqb-false _ _ n)))
+
+      -- ---- and where no grain runs past F, all markers are
+      module _ (n : lowestPast s h ≡ None) where
+        marker-in : (g e : ℕ) → g < grainsOf h → grainEntry s h g ≡ Sector e → e < fileSectors s
+        marker-in g e l q =
+            let i : runsPast (fileSectors s) (grainArea s h g) ≡ false = none-lowest (grainPast s h) (grainsOf h) n g l in
+            let j = named-in (fileSectors s) (takes s) e (rw q at i) in
+            omega (arith, some-sectors s (h .packed) (h .«grain_size») e one)
+
+        -- 10
+        markers-same : lowestBadMarker s h ≡ lowestBadMarker t h
+        unfolding markerBrokenAt markerBroken
+        markers-same =
+            lowest-same _ _ 0 _
+            (λ g l.
+            let b : g < grainsOf h = omega arith in
+            rw (← entry-same g b)
+            (and-both (h .packed) _ _
+            (λ c.
+            by-entry (markerBrokenAt s (h .«grain_size») g) (markerBrokenAt t (h .«grain_size») g) refl refl _
+            (λ e q. let m = same .markers c g e b q (marker-in g e b q) in rw (m .0, m .1)))))
+
+        -- 12
+        area-same : (g : ℕ) → g < grainsOf h → grainArea s h g ≡ grainArea t h g
+        unfolding named
+        area-same g l =
+            rw (← entry-same g l)
+            (by-entry (named (takes s)) (named (takes t)) refl refl _
+            (λ e q.
+            rw (sectors-same s t (h .packed) (h .«grain_size») e (λ c. same .markers c g e l q (marker-in g e l q) .0))))
+
+        areas-same : areas s h ≡ areas t h
+        unfolding areas
+        areas-same =
+            rw (
+              same .long,
+              tables-same s t h (h .directory) (same .primary) (primary-in s h p),
+              redundant-same (p .redundant),
+              rows-same (grainsOf h) (grainArea s h) (grainArea t h) area-same,
+            )
+
+      grains-same : checkGrains s h ≡ checkGrains t h
+      unfolding checkGrains checkCopies checkApart
+      grains-same =
+          rw (← lowest-past-same) (unless-same (lowestPast s h) _ _ _ (λ n. rw (markers-same n, copies-same, areas-same n)))
+
+    pub unused-free : checkLayout s h ≡ checkLayout t h
+    unfolding checkLayout
+    unused-free = rw (← misplaced-same) (pick-both _≡_ _ _ _ _ _ (λ q. refl) (λ n. grains-same (places-kept s h n)))

@@ -1,24 +1,25 @@
 -- The answers in document 01's numbers: a refusal's number and place, and for each answer its values.
-use Prim.Native.Nat.{ℕ, _+_, _*_}
+use Prim.Native.Nat.{ℕ}
 use Rattle.format.specs.declared.Refusal.{Refusal}
-use Rattle.format.specs.declared.Refusal.the-variants.{TooShort, Magic, Version, Newline, Flags, Sizes, Footer, Misplaced, GrainPast, Marker, CopiesDiffer, SharedSector, SectorPast, TooLittleRoom, LayersDiffer, NotCollapsible, LayerLengths}
+use Rattle.format.specs.declared.Refusal.the-variants.{TooShort, Magic, Version, Newline, Flags, Sizes, Footer, Misplaced}
+use Rattle.format.specs.declared.Refusal.the-variants.{GrainPast, Marker, CopiesDiffer, SharedSector, SectorPast}
+use Rattle.format.specs.declared.Refusal.the-variants.{TooLittleRoom, LayersDiffer, NotCollapsible, LayerLengths}
 use Rattle.format.specs.declared.Source.{Source}
 use Rattle.format.specs.declared.Source.the-variants.{Absent, Zero, Stored, Packed}
 use Rattle.format.specs.declared.HeaderAnswer.{HeaderAnswer}
-use Rattle.format.specs.declared.HeaderAnswer.the-variants.{Known, Refused as unknown}
+use Rattle.format.specs.declared.HeaderAnswer.the-variants.{Known, Refused as headerRefused}
 use Rattle.format.specs.declared.CheckAnswer.{CheckAnswer}
-use Rattle.format.specs.declared.CheckAnswer.the-variants.{Accepted, Refused as unaccepted}
+use Rattle.format.specs.declared.CheckAnswer.the-variants.{Accepted, Refused as checkRefused}
 use Rattle.format.specs.declared.LookupAnswer.{LookupAnswer}
-use Rattle.format.specs.declared.LookupAnswer.the-variants.{Found, Refused as notFound}
+use Rattle.format.specs.declared.LookupAnswer.the-variants.{Found, Refused as lookupRefused}
 use Rattle.format.specs.declared.ChainAnswer.{ChainAnswer}
-use Rattle.format.specs.declared.ChainAnswer.the-variants.{Found as foundIn, Refused as notFoundIn}
+use Rattle.format.specs.declared.ChainAnswer.the-variants.{Found as foundIn, Refused as chainRefused}
 use Rattle.format.specs.declared.CollapseAnswer.{CollapseAnswer}
-use Rattle.format.specs.declared.CollapseAnswer.the-variants.{Written as writtenTo, Refused as notWritten}
+use Rattle.format.specs.declared.CollapseAnswer.the-variants.{Written as writtenTo, Refused as collapseRefused}
 use Rattle.format.specs.declared.Verdict.{Verdict}
 use Rattle.format.specs.declared.Located.{Located}
 use Rattle.format.specs.declared.Written.{Written}
 use Rattle.format.specs.declared.Head.{Head}
-use Rattle.format.specs.declared.Part.{Part}
 
 -- ---- refusals: number and place
 abbrev pub number : Refusal → ℕ
@@ -40,7 +41,7 @@ number LayersDiffer = 22
 number NotCollapsible = 23
 number LayerLengths = 24
 
--- the lowest grain number for 9 and 10, else 0
+-- the grain for 9 and 10 (the lowest one at fault; in a lookup the sector's own), else 0
 abbrev pub place : Refusal → ℕ
 place TooShort = 0
 place Magic = 0
@@ -60,9 +61,9 @@ place LayersDiffer = 0
 place NotCollapsible = 0
 place LayerLengths = 0
 
--- ---- a header alone: the descriptor's numbers as it has them, 0 for COWD
-abbrev pub head : HeaderAnswer → Head
-head (Known h) = record {
+-- ---- a header alone: the descriptor's numbers as it has them, 0 for COWD. They are not judged: 8 is no rule of the header
+abbrev pub headerNumbers : HeaderAnswer → Head
+headerNumbers (Known h) = record {
   number = 0;
   place = 0;
   capacity = h .capacity;
@@ -70,7 +71,7 @@ head (Known h) = record {
   descriptor = h .descriptor;
   «descriptor_sectors» = h .«descriptor_sectors»;
 }
-head (unknown r) = record {
+headerNumbers (headerRefused r) = record {
   number = number r;
   place = place r;
   capacity = 0;
@@ -81,8 +82,8 @@ head (unknown r) = record {
 
 -- ---- the check: capacity and grain size
 abbrev pub verdict : CheckAnswer → Verdict
-verdict (Accepted capacity size) = record { number = 0; place = 0; capacity = capacity; «grain_size» = size }
-verdict (unaccepted r) = record { number = number r; place = place r; capacity = 0; «grain_size» = 0 }
+verdict (Accepted capacity grainSize) = record { number = 0; place = 0; capacity = capacity; «grain_size» = grainSize }
+verdict (checkRefused r) = record { number = number r; place = place r; capacity = 0; «grain_size» = 0 }
 
 -- ---- the lookup and the chain lookup: a layer and the kind of source: 0 absent, 1 zero, 2 stored, 3 packed
 abbrev pub served : ℕ → Source → Located
@@ -96,24 +97,13 @@ unserved layer r = record { number = number r; layer = layer; place = place r; k
 
 abbrev pub located : LookupAnswer → Located
 located (Found source) = served 0 source
-located (notFound r) = unserved 0 r
+located (lookupRefused r) = unserved 0 r
 
 abbrev pub chained : ChainAnswer → Located
 chained (foundIn a) = served (a .layer) (a .source)
-chained (notFoundIn layer r) = unserved layer r
-
--- ---- the grain reader: where the bytes stand in the image, and how many; 0 and 0 where there are none
-abbrev pub sourcePart : Source → Part
-sourcePart Absent = record { at = 0; length = 0 }
-sourcePart Zero = record { at = 0; length = 0 }
-sourcePart (Stored s) = record { at = 512 * s; length = 512 }
-sourcePart (Packed m n o) = record { at = 512 * m + 12; length = n }
-
-abbrev pub part : LookupAnswer → Part
-part (Found source) = sourcePart source
-part (notFound r) = record { at = 0; length = 0 }
+chained (chainRefused layer r) = unserved layer r
 
 -- ---- collapse and normal form: the result's length in bytes
 abbrev pub written : CollapseAnswer → Written
 written (writtenTo long) = record { number = 0; place = 0; length = long }
-written (notWritten r) = record { number = number r; place = place r; length = 0 }
+written (collapseRefused r) = record { number = number r; place = place r; length = 0 }

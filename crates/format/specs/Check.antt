@@ -5,8 +5,8 @@ use mathlib.Core.Bool.{Bool, true, false, not, _&&_, _||_}
 use lib.Dec.{ltb, eqb}
 use Rattle.base.specs.Pick.{pick}
 use Rattle.format.specs.Geometry.{fileSectors}
-use Rattle.format.specs.Header.{grainsOf, entriesOf, judge}
-use Rattle.format.specs.Entries.{entryAt, tableAt, grainEntry, entriesInUse, markerBroken, some}
+use Rattle.format.specs.Header.{grainsOf, directoryEntriesOf, judge}
+use Rattle.format.specs.Entries.{entryAt, meaningAt, grainEntry, entriesInUse, markerBroken, anyBelow}
 use Rattle.format.specs.Areas.{redundantArea, primaryTables, redundantTables, grainArea, areas, runsPast, meet}
 use Rattle.format.specs.declared.Header.{Header}
 use Rattle.format.specs.declared.Entry.{Entry}
@@ -16,11 +16,11 @@ use Rattle.format.specs.declared.Lowest.the-variants.{None, Grain}
 use Rattle.format.specs.declared.Refusal.{Refusal}
 use Rattle.format.specs.declared.Refusal.the-variants.{Misplaced, GrainPast, Marker, CopiesDiffer, SharedSector}
 use Rattle.format.specs.declared.HeaderAnswer.{HeaderAnswer}
-use Rattle.format.specs.declared.HeaderAnswer.the-variants.{Known, Refused as unknown}
+use Rattle.format.specs.declared.HeaderAnswer.the-variants.{Known, Refused as headerRefused}
 use Rattle.format.specs.declared.CheckAnswer.{CheckAnswer}
 use Rattle.format.specs.declared.CheckAnswer.the-variants.{Accepted, Refused}
 
--- ---- 8, part by part, in this order
+-- ---- 8, part by part, in this order, which shows in no answer
 -- one descriptor number zero and one not, or the descriptor past F
 abbrev pub descriptorMisplaced : ℕ → Header → Bool
 descriptorMisplaced f h =
@@ -33,21 +33,22 @@ abbrev pub directoryMisplaced : ℕ → Header → Bool
 directoryMisplaced f h = eqb (h .directory) 0 || ltb f (h .directory + h .«directory_sectors»)
 
 -- the redundant directory past F
-abbrev pub redundantMisplaced : ℕ → Header → Bool
-redundantMisplaced f h = runsPast f (redundantArea h)
+abbrev pub redundantDirectoryMisplaced : ℕ → Header → Bool
+redundantDirectoryMisplaced f h = runsPast f (redundantArea h)
 
 -- a table of either past F
-abbrev pub primaryMisplaced : List ℕ → Header → Bool
-primaryMisplaced s h = runsPast (fileSectors s) (primaryTables s h)
+abbrev pub primaryTablesMisplaced : List ℕ → Header → Bool
+primaryTablesMisplaced s h = runsPast (fileSectors s) (primaryTables s h)
 
-abbrev pub copiesMisplaced : List ℕ → Header → Bool
-copiesMisplaced s h = runsPast (fileSectors s) (redundantTables s h)
+abbrev pub redundantTablesMisplaced : List ℕ → Header → Bool
+redundantTablesMisplaced s h = runsPast (fileSectors s) (redundantTables s h)
 
 unfoldable pub misplaced : List ℕ → Header → Bool
 misplaced s h =
     pick (descriptorMisplaced (fileSectors s) h) true
     (pick (directoryMisplaced (fileSectors s) h) true
-    (pick (redundantMisplaced (fileSectors s) h) true (pick (primaryMisplaced s h) true (copiesMisplaced s h))))
+    (pick (redundantDirectoryMisplaced (fileSectors s) h) true
+    (pick (primaryTablesMisplaced s h) true (redundantTablesMisplaced s h))))
 
 -- ---- 9 and 10, with the lowest grain number
 -- the first of the n grains from g on that is broken
@@ -55,18 +56,18 @@ unfoldable pub lowestFrom : (ℕ → Bool) → ℕ → ℕ → Lowest
 lowestFrom broken g zero = None
 lowestFrom broken g (suc n) = let later = lowestFrom broken (g + 1) n in pick (broken g) (Grain g) later
 
--- 9: a grain past F. Where a packed grain's marker is not below F, it takes a sector at least
+-- 9: a grain past F. A packed grain takes a sector at least: one whose marker is not below F is past F, whatever is read there
 abbrev pub grainPast : List ℕ → Header → ℕ → Bool
 grainPast s h g = runsPast (fileSectors s) (grainArea s h g)
 
 -- 10: a packed grain's size or first sector
-unfoldable pub markerAt : List ℕ → ℕ → ℕ → Entry → Bool
-markerAt s size g Absent = false
-markerAt s size g Zero = false
-markerAt s size g (Sector e) = markerBroken s size g e
+unfoldable pub markerBrokenAt : List ℕ → ℕ → ℕ → Entry → Bool
+markerBrokenAt s grainSize g Absent = false
+markerBrokenAt s grainSize g Zero = false
+markerBrokenAt s grainSize g (Sector e) = markerBroken s grainSize g e
 
 abbrev pub badMarker : List ℕ → Header → ℕ → Bool
-badMarker s h g = h .packed && markerAt s (h .«grain_size») g (grainEntry s h g)
+badMarker s h g = h .packed && markerBrokenAt s (h .«grain_size») g (grainEntry s h g)
 
 abbrev pub lowestPast : List ℕ → Header → Lowest
 lowestPast s h = lowestFrom (grainPast s h) 0 (grainsOf h)
@@ -77,7 +78,7 @@ lowestBadMarker s h = lowestFrom (badMarker s h) 0 (grainsOf h)
 -- ---- 11: copies differ
 -- the n entries of two tables differ somewhere
 abbrev pub tablesDiffer : List ℕ → ℕ → ℕ → ℕ → Bool
-tablesDiffer s t u n = some (λ k. not (eqb (entryAt s t k) (entryAt s u k))) n
+tablesDiffer s t u n = anyBelow (λ k. not (eqb (entryAt s t k) (entryAt s u k))) n
 
 -- two directory entries: 0 and 1 stand exactly where they stand in the other, and tables are equal in the n entries in use
 unfoldable pub copyDiffers : List ℕ → ℕ → Entry → Entry → Bool
@@ -93,10 +94,11 @@ copyDiffers s n (Sector t) (Sector u) = tablesDiffer s t u n
 
 abbrev pub entryDiffers : List ℕ → Header → ℕ → Bool
 entryDiffers s h d =
-    copyDiffers s (entriesInUse h d) (tableAt s (h .«one_is_zero») (h .directory) d) (tableAt s (h .«one_is_zero») (h .redundant) d)
+    copyDiffers s (entriesInUse h d) (meaningAt s (h .«one_is_zero») (h .directory) d)
+    (meaningAt s (h .«one_is_zero») (h .redundant) d)
 
 unfoldable pub copiesDiffer : List ℕ → Header → Bool
-copiesDiffer s h = pick (eqb (h .redundant) 0) false (some (entryDiffers s h) (entriesOf h))
+copiesDiffer s h = pick (eqb (h .redundant) 0) false (anyBelow (entryDiffers s h) (directoryEntriesOf h))
 
 -- ---- 8 to 12 in their order
 unfoldable pub unlessGrain : Lowest → (ℕ → Refusal) → CheckAnswer → CheckAnswer
@@ -117,7 +119,7 @@ unfoldable pub checkLayout : List ℕ → Header → CheckAnswer
 checkLayout s h = pick (misplaced s h) (Refused Misplaced) (checkGrains s h)
 
 unfoldable pub checkFrom : List ℕ → HeaderAnswer → CheckAnswer
-checkFrom s (unknown r) = Refused r
+checkFrom s (headerRefused r) = Refused r
 checkFrom s (Known h) = checkLayout s h
 
 abbrev pub check : List ℕ → CheckAnswer

@@ -14,7 +14,7 @@ use Rattle.format.specs.Layout.{layoutOf, layoutLength}
 use Rattle.format.specs.declared.Header.{Header}
 use Rattle.format.specs.declared.Refusal.the-variants.{TooLittleRoom, LayersDiffer, NotCollapsible}
 use Rattle.format.specs.declared.CheckAnswer.{CheckAnswer}
-use Rattle.format.specs.declared.CheckAnswer.the-variants.{Accepted, Refused as unaccepted}
+use Rattle.format.specs.declared.CheckAnswer.the-variants.{Accepted, Refused as checkRefused}
 use Rattle.format.specs.declared.CollapseAnswer.{CollapseAnswer}
 use Rattle.format.specs.declared.CollapseAnswer.the-variants.{Written, Refused}
 
@@ -33,39 +33,42 @@ laidLength h m = layoutLength (h .capacity) (h .«grain_size») m
 abbrev pub normalForm : List ℕ → List ℕ
 normalForm s = laidOut (headerOf s) (mapOf s)
 
+-- the lower's capacity and grain size: after 22 they are the upper's too
 abbrev pub collapsed : List ℕ → List ℕ → List ℕ
 collapsed lower upper = laidOut (headerOf lower) (merge (mapOf lower) (mapOf upper))
 
 -- ---- answers, where the output has `room` bytes
-unfoldable pub unlessUnaccepted : CheckAnswer → CollapseAnswer → CollapseAnswer
-unlessUnaccepted (unaccepted r) a = Refused r
-unlessUnaccepted (Accepted capacity size) a = a
+unfoldable pub ifAccepted : CheckAnswer → CollapseAnswer → CollapseAnswer
+ifAccepted (checkRefused r) a = Refused r
+ifAccepted (Accepted capacity grainSize) a = a
 
 -- 23: COWD or flag 0x10000
 abbrev pub notCollapsible : Header → Bool
 notCollapsible h = h .cowd || h .packed
 
 -- 21: the output is too short
-unfoldable pub fitted : ℕ → ℕ → CollapseAnswer
-fitted room long = pick (ltb room long) (Refused TooLittleRoom) (Written long)
+unfoldable pub writtenIfRoom : ℕ → ℕ → CollapseAnswer
+writtenIfRoom room long = pick (ltb room long) (Refused TooLittleRoom) (Written long)
+
+-- where the image is accepted: 23, 21
+unfoldable pub normalFrom : Header → Map → ℕ → CollapseAnswer
+normalFrom h m room = pick (notCollapsible h) (Refused NotCollapsible) (writtenIfRoom room (laidLength h m))
 
 -- the check, 23, 21
-unfoldable pub normalFrom : Header → Map → ℕ → CollapseAnswer
-normalFrom h m room = pick (notCollapsible h) (Refused NotCollapsible) (fitted room (laidLength h m))
-
 abbrev pub normal : List ℕ → ℕ → CollapseAnswer
-normal s room = unlessUnaccepted (check s) (normalFrom (headerOf s) (mapOf s) room)
+normal s room = ifAccepted (check s) (normalFrom (headerOf s) (mapOf s) room)
 
--- the lower's check, the upper's check, 23, 22, 21
+-- where both images are accepted: 23, 22, 21
 unfoldable pub collapseFrom : Header → Header → Map → ℕ → CollapseAnswer
 collapseFrom lower upper m room =
     pick (notCollapsible lower || notCollapsible upper) (Refused NotCollapsible)
-    (pick (unlike lower upper) (Refused LayersDiffer) (fitted room (laidLength lower m)))
+    (pick (unlike lower upper) (Refused LayersDiffer) (writtenIfRoom room (laidLength lower m)))
 
+-- the lower's check, the upper's check, 23, 22, 21
 abbrev pub collapse : List ℕ → List ℕ → ℕ → CollapseAnswer
 collapse lower upper room =
-    unlessUnaccepted (check lower)
-    (unlessUnaccepted (check upper) (collapseFrom (headerOf lower) (headerOf upper) (merge (mapOf lower) (mapOf upper)) room))
+    ifAccepted (check lower)
+    (ifAccepted (check upper) (collapseFrom (headerOf lower) (headerOf upper) (merge (mapOf lower) (mapOf upper)) room))
 
 -- ---- the output: the image from its start on, and what it held past that; on a refusal all that it held
 unfoldable pub output : CollapseAnswer → List ℕ → List ℕ → List ℕ

@@ -1,4 +1,5 @@
--- Entries: what each means, which ones a grain uses, and what a grain takes in the file.
+-- Entries: what each means, which ones a grain uses, and what a grain takes in the file. In all definitions s is an image's
+-- bytes, h its header, g a grain, e the sector that an entry names, x the virtual sector asked for and o = x mod grain size.
 use Prim.Native.Nat.{ℕ, zero, suc, _+_, _-_, _*_, _/_, _%_, min}
 use mathlib.Core.List.{List}
 use mathlib.Core.Bool.{Bool, false, not, _&&_, _||_}
@@ -25,17 +26,17 @@ inTable s oneIsZero k Absent = Absent
 inTable s oneIsZero k Zero = Zero
 inTable s oneIsZero k (Sector t) = meaning oneIsZero (entryAt s t k)
 
--- directory entry d, in the directory at a sector
-abbrev pub tableAt : List ℕ → Bool → ℕ → ℕ → Entry
-tableAt s oneIsZero directory d = meaning oneIsZero (entryAt s directory d)
+-- what entry k of the directory or table at sector t means
+abbrev pub meaningAt : List ℕ → Bool → ℕ → ℕ → Entry
+meaningAt s oneIsZero t k = meaning oneIsZero (entryAt s t k)
 
 -- grain g uses directory entry g / 512 and table entry g mod 512 (4,096 for COWD): for any number of entries per table
-unfoldable pub entryOf : List ℕ → Bool → ℕ → ℕ → ℕ → Entry
-entryOf s oneIsZero perTable directory g =
-    inTable s oneIsZero (g % perTable) (tableAt s oneIsZero directory (g / perTable))
+unfoldable pub entryOfGrain : List ℕ → Bool → ℕ → ℕ → ℕ → Entry
+entryOfGrain s oneIsZero perTable directory g =
+    inTable s oneIsZero (g % perTable) (meaningAt s oneIsZero directory (g / perTable))
 
 abbrev pub grainEntry : List ℕ → Header → ℕ → Entry
-grainEntry s h g = entryOf s (h .«one_is_zero») (h .«entries_per_table») (h .directory) g
+grainEntry s h g = entryOfGrain s (h .«one_is_zero») (h .«entries_per_table») (h .directory) g
 
 -- the entries of the table of directory entry d that are in use: those of grains below the number of grains
 abbrev pub entriesInUse : Header → ℕ → ℕ
@@ -51,13 +52,13 @@ markerSize s e = leAt s (512 * e + 8) 4
 
 -- a stored grain takes grain-size sectors, also where capacity ends inside it; a packed one (12 + size) / 512, rounded up
 unfoldable pub grainSectors : List ℕ → Bool → ℕ → ℕ → ℕ
-grainSectors s packed size e = pick packed (ceil (12 + markerSize s e) 512) size
+grainSectors s packed grainSize e = pick packed (ceil (12 + markerSize s e) 512) grainSize
 
 -- the size is at least 1, and the first number is g x grain size
 unfoldable pub markerBroken : List ℕ → ℕ → ℕ → ℕ → Bool
-markerBroken s size g e = eqb (markerSize s e) 0 || not (eqb (markerFirst s e) (g * size))
+markerBroken s grainSize g e = eqb (markerSize s e) 0 || not (eqb (markerFirst s e) (g * grainSize))
 
 -- ---- a rule that is broken by one of the numbers below n
-unfoldable pub some : (ℕ → Bool) → ℕ → Bool
-some broken zero = false
-some broken (suc n) = some broken n || broken n
+unfoldable pub anyBelow : (ℕ → Bool) → ℕ → Bool
+anyBelow broken zero = false
+anyBelow broken (suc n) = anyBelow broken n || broken n

@@ -20,30 +20,30 @@ abbrev pub Map : Type 0
 Map = ℕ → Grain
 
 -- a grain is the upper's unless absent there, else the lower's
-unfoldable pub onto : Grain → Grain → Grain
-onto lower absent = lower
-onto lower zeroed = zeroed
-onto lower (stored b) = stored b
+unfoldable pub upperUnlessAbsent : Grain → Grain → Grain
+upperUnlessAbsent lower absent = lower
+upperUnlessAbsent lower zeroed = zeroed
+upperUnlessAbsent lower (stored b) = stored b
 
 abbrev pub merge : Map → Map → Map
-merge lower upper g = onto (lower g) (upper g)
+merge lower upper g = upperUnlessAbsent (lower g) (upper g)
 
 -- the map of an image whose grains are all absent
-abbrev pub nothing : Map
-nothing g = absent
+abbrev pub allAbsent : Map
+allAbsent g = absent
 
 -- ---- what an image says, uncompressed
--- byte i of grain g, whose bytes s begins with: sectors past capacity are zero
+-- byte i of grain g, where s starts at the grain: 0 from capacity on
 abbrev pub clipAt : ℕ → ℕ → ℕ → List ℕ → ℕ → ℕ
-clipAt capacity size g s i = pick (ltb (512 * (g * size) + i) (512 * capacity)) (getD s i 0) 0
+clipAt capacity grainSize g s i = pick (ltb (512 * (g * grainSize) + i) (512 * capacity)) (getD s i 0) 0
 
 unfoldable pub clip : ℕ → ℕ → ℕ → List ℕ → List ℕ
-clip capacity size g s = tabulate (512 * size) (clipAt capacity size g s)
+clip capacity grainSize g s = tabulate (512 * grainSize) (clipAt capacity grainSize g s)
 
 unfoldable pub grainFrom : List ℕ → ℕ → ℕ → ℕ → Entry → Grain
-grainFrom s capacity size g Absent = absent
-grainFrom s capacity size g Zero = zeroed
-grainFrom s capacity size g (Sector e) = stored (clip capacity size g (drop (512 * e) s))
+grainFrom s capacity grainSize g Absent = absent
+grainFrom s capacity grainSize g Zero = zeroed
+grainFrom s capacity grainSize g (Sector e) = stored (clip capacity grainSize g (drop (512 * e) s))
 
 abbrev pub grainMap : List ℕ → Header → Map
 grainMap s h g = grainFrom s (h .capacity) (h .«grain_size») g (grainEntry s h g)
@@ -54,15 +54,15 @@ bytesOf absent = []
 bytesOf zeroed = []
 bytesOf (stored b) = b
 
-unfoldable pub count : Grain → ℕ
-count absent = 0
-count zeroed = 0
-count (stored b) = 1
+unfoldable pub oneIfStored : Grain → ℕ
+oneIfStored absent = 0
+oneIfStored zeroed = 0
+oneIfStored (stored b) = 1
 
 -- the stored grains below g
 unfoldable pub storedBelow : Map → ℕ → ℕ
 storedBelow m zero = 0
-storedBelow m (suc g) = storedBelow m g + count (m g)
+storedBelow m (suc g) = storedBelow m g + oneIfStored (m g)
 
 -- a grain's table entry: 0 absent, 1 zero, else the sector where it stands
 unfoldable pub entryFor : Grain → ℕ → ℕ
@@ -70,8 +70,8 @@ entryFor absent sector = 0
 entryFor zeroed sector = 1
 entryFor (stored b) sector = sector
 
--- a grain that has as many bytes as it takes, and zeros past capacity
+-- clipping changes nothing: 512 x grain size bytes, and zeros past capacity
 abbrev pub Whole : ℕ → ℕ → ℕ → Grain → Type 0
-Whole capacity size g absent = Unit
-Whole capacity size g zeroed = Unit
-Whole capacity size g (stored b) = clip capacity size g b ≡ b
+Whole capacity grainSize g absent = Unit
+Whole capacity grainSize g zeroed = Unit
+Whole capacity grainSize g (stored b) = clip capacity grainSize g b ≡ b

@@ -7,7 +7,7 @@ use lib.ListN.{length}
 use Rattle.base.specs.Pick.{pick}
 use Rattle.base.specs.Strings.{sameAt}
 use Rattle.format.specs.Geometry.{grains, directoryEntries, directorySectors}
-use Rattle.format.specs.Kdmv.{kdmvMagic, kdmvFields, has, atEnd, kdmvFault, footerDirectory, footerBroken}
+use Rattle.format.specs.Kdmv.{kdmvMagic, kdmvFields, flagSet, atEnd, kdmvFault, footerDirectory, footerBroken}
 use Rattle.format.specs.Cowd.{cowdMagic, cowdFields, cowdFault}
 use Rattle.format.specs.declared.KdmvFields.{KdmvFields}
 use Rattle.format.specs.declared.CowdFields.{CowdFields}
@@ -19,7 +19,7 @@ use Rattle.format.specs.declared.HeaderAnswer.{HeaderAnswer}
 use Rattle.format.specs.declared.HeaderAnswer.the-variants.{Known, Refused}
 
 -- ---- what all calls have to know, of either kind
--- when entry 1 means zeros: in every KDMV image, in no COWD image
+-- when entry 1 means zeros: in every KDMV image, whether flag 0x4 is set or not; in a COWD image it is sector 1
 abbrev pub kdmvOneIsZero : KdmvFields → Bool
 kdmvOneIsZero k = true
 
@@ -39,7 +39,7 @@ kdmvHeader k directory =
       «entries_per_table» = 512;
       «table_sectors» = 4;
       «one_is_zero» = kdmvOneIsZero k;
-      packed = has (k .flags) 0x10000;
+      packed = flagSet (k .flags) 0x10000;
       footer = atEnd k;
     }
 
@@ -73,7 +73,7 @@ kdmvHeaderOf s = kdmvHeader (kdmvFields s) (directoryOf s (kdmvFields s))
 abbrev pub cowdHeaderOf : List ℕ → Header
 cowdHeaderOf s = cowdHeader (cowdFields s)
 
--- the header of an image that is not refused
+-- the header that `judge` gives, where it gives one; elsewhere it has no meaning
 unfoldable pub headerOf : List ℕ → Header
 headerOf s = pick (sameAt s 0 kdmvMagic) (kdmvHeaderOf s) (cowdHeaderOf s)
 
@@ -81,8 +81,8 @@ headerOf s = pick (sameAt s 0 kdmvMagic) (kdmvHeaderOf s) (cowdHeaderOf s)
 abbrev pub grainsOf : Header → ℕ
 grainsOf h = grains (h .capacity) (h .«grain_size»)
 
-abbrev pub entriesOf : Header → ℕ
-entriesOf h = directoryEntries (h .capacity) (h .«entries_per_table») (h .«grain_size»)
+abbrev pub directoryEntriesOf : Header → ℕ
+directoryEntriesOf h = directoryEntries (h .capacity) (h .«entries_per_table») (h .«grain_size»)
 
 -- ---- the order of refusals: 1, 2, then by kind
 unfoldable pub unlessFault : Fault → HeaderAnswer → HeaderAnswer

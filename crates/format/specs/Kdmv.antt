@@ -44,16 +44,16 @@ versionBroken k = eqb (k .version) 0 || ltb 3 (k .version)
 
 -- ---- flags
 -- flag b, a power of two, is set in f
-abbrev pub has : ℕ → ℕ → Bool
-has f b = eqb (f / b % 2) 1
+abbrev pub flagSet : ℕ → ℕ → Bool
+flagSet f b = eqb (f / b % 2) 1
 
 -- what flag b counts in f: b if it is set, else 0
-abbrev pub part : ℕ → ℕ → ℕ
-part f b = b * (f / b % 2)
+abbrev pub flagValue : ℕ → ℕ → ℕ
+flagValue f b = b * (f / b % 2)
 
 -- 4: if 0x1 is set, the newline bytes are right
 abbrev pub newlineBroken : KdmvFields → Bool
-newlineBroken k = has (k .flags) 0x1 && not (k .newline)
+newlineBroken k = flagSet (k .flags) 0x1 && not (k .newline)
 
 -- the directory stands at the end, where a footer tells its sector
 abbrev pub allOnes : ℕ
@@ -65,21 +65,21 @@ atEnd k = eqb (k .directory) allOnes
 -- 5: no bit but the five; compression is 1 exactly when 0x10000 is set, else 0; 0x20000 needs 0x10000; 0x2 needs a redundant
 -- directory; a directory at the end needs 0x20000
 abbrev pub otherFlags : ℕ → Bool
-otherFlags f = not (eqb f (part f 0x1 + part f 0x2 + part f 0x4 + part f 0x10000 + part f 0x20000))
+otherFlags f = not (eqb f (flagValue f 0x1 + flagValue f 0x2 + flagValue f 0x4 + flagValue f 0x10000 + flagValue f 0x20000))
 
 abbrev pub flagsBroken : KdmvFields → Bool
 flagsBroken k =
     otherFlags (k .flags)
     || (not (eqb (k .compression) (k .flags / 0x10000 % 2))
-    || ((has (k .flags) 0x20000 && not (has (k .flags) 0x10000))
-    || ((has (k .flags) 0x2 && eqb (k .redundant) 0) || (atEnd k && not (has (k .flags) 0x20000)))))
+    || ((flagSet (k .flags) 0x20000 && not (flagSet (k .flags) 0x10000))
+    || ((flagSet (k .flags) 0x2 && eqb (k .redundant) 0) || (atEnd k && not (flagSet (k .flags) 0x20000)))))
 
 -- ---- 6: capacity 1 to 2^31; grain size a power of two, `least` to 2,048; entries per table 512
 abbrev pub capacityBroken : ℕ → Bool
 capacityBroken c = eqb c 0 || ltb 0x80000000 c
 
 abbrev pub grainSizeBroken : ℕ → ℕ → Bool
-grainSizeBroken least size = ltb size least || not (powerUpTo 11 size)
+grainSizeBroken least grainSize = ltb grainSize least || not (powerUpTo 11 grainSize)
 
 abbrev pub kdmvSizesBroken : KdmvFields → Bool
 kdmvSizesBroken k =
@@ -92,7 +92,7 @@ kdmvFault k =
     (pick (newlineBroken k) (Found Newline)
     (pick (flagsBroken k) (Found Flags) (pick (kdmvSizesBroken k) (Found Sizes) None)))
 
--- ---- 7: the footer, sector F-2, and the last sector, F-1
+-- ---- 7: the footer, sector F-2, and the last sector, F-1. Both count only where F is at least 4
 abbrev pub footerAt : List ℕ → ℕ
 footerAt s = 512 * (fileSectors s - 2)
 
@@ -102,13 +102,18 @@ lastAt s = 512 * (fileSectors s - 1)
 abbrev pub footerDirectory : List ℕ → ℕ
 footerDirectory s = leAt s (footerAt s + 56) 8
 
--- equal to sector 0 in all bytes but 56 to 63
-abbrev pub footerSame : List ℕ → Bool
-footerSame s = sameAt s (footerAt s) (bytesAt s 0 56) && sameAt s (footerAt s + 64) (bytesAt s 64 448)
+-- sector F-2 is not equal to sector 0 in all bytes but 56 to 63
+abbrev pub footerDiffers : List ℕ → Bool
+footerDiffers s = not (sameAt s (footerAt s) (bytesAt s 0 56) && sameAt s (footerAt s + 64) (bytesAt s 64 448))
 
--- length a multiple of 512, F at least 4, sector F-2 as sector 0, sector F-1 all zero, the footer's directory not at the end again
+-- sector F-1 is not all zero
+abbrev pub lastNotZero : List ℕ → Bool
+lastNotZero s = not (sameAt s (lastAt s) (zeros 512))
+
+-- length a multiple of 512, F at least 4, sector F-2 as sector 0, sector F-1 all zero, the footer's directory not at the end
+-- again
 unfoldable pub footerBroken : List ℕ → Bool
 footerBroken s =
     pick (ltb 0 (length s % 512)) true
     (pick (ltb (fileSectors s) 4) true
-    (pick (footerSame s) (pick (sameAt s (lastAt s) (zeros 512)) (eqb (footerDirectory s) allOnes) true) true))
+    (pick (footerDiffers s) true (pick (lastNotZero s) true (eqb (footerDirectory s) allOnes))))

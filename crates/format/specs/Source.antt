@@ -1,12 +1,12 @@
 -- Serving sectors: the source of a virtual sector, the lookup and the grain reader.
 use Prim.Native.Nat.{ℕ, _+_, _*_, _/_, _%_}
-use mathlib.Core.List.{List, []}
+use mathlib.Core.List.{List}
 use mathlib.Core.Bool.{Bool, _&&_}
 use lib.Dec.{ltb, leb}
 use Rattle.base.specs.Pick.{pick}
 use Rattle.format.specs.Geometry.{fileSectors, bytesAt}
 use Rattle.format.specs.Header.{judge}
-use Rattle.format.specs.Entries.{tableAt, grainEntry, markerSize, markerBroken, grainSectors}
+use Rattle.format.specs.Entries.{meaningAt, grainEntry, markerSize, markerBroken, grainSectors}
 use Rattle.format.specs.Check.{directoryMisplaced}
 use Rattle.format.specs.declared.Header.{Header}
 use Rattle.format.specs.declared.Entry.{Entry}
@@ -15,7 +15,8 @@ use Rattle.format.specs.declared.Source.{Source}
 use Rattle.format.specs.declared.Source.the-variants.{Absent, Zero, Stored, Packed}
 use Rattle.format.specs.declared.Refusal.the-variants.{Misplaced, GrainPast, Marker, SectorPast}
 use Rattle.format.specs.declared.HeaderAnswer.{HeaderAnswer}
-use Rattle.format.specs.declared.HeaderAnswer.the-variants.{Known, Refused as unknown}
+use Rattle.format.specs.declared.HeaderAnswer.the-variants.{Known, Refused as headerRefused}
+use Rattle.format.specs.declared.Part.{Part}
 use Rattle.format.specs.declared.LookupAnswer.{LookupAnswer}
 use Rattle.format.specs.declared.LookupAnswer.the-variants.{Found, Refused}
 
@@ -32,7 +33,8 @@ entrySource s packed o (Sector e) = grainSource s packed o e
 abbrev pub sourceOf : List ℕ → Header → ℕ → Source
 sourceOf s h x = entrySource s (h .packed) (x % h .«grain_size») (grainEntry s h (x / h .«grain_size»))
 
--- ---- the lookup: 1 to 7, 20, then of 8 to 10 only directory sector 0 and the whole directory, and the table and the grain that x
+-- ---- the lookup: 1 to 7, 20, then of 8 to 10 only directory sector 0 and the whole directory, and the table and the grain
+-- that x
 -- leads to
 unfoldable pub lookupGrain : List ℕ → Header → ℕ → ℕ → ℕ → LookupAnswer
 lookupGrain s h g o e =
@@ -49,32 +51,43 @@ lookupTable s h g o noEntry = Found Absent
 lookupTable s h g o zeroEntry = Found Zero
 lookupTable s h g o (Sector t) =
     pick (ltb (fileSectors s) (t + h .«table_sectors»)) (Refused Misplaced)
-    (lookupEntry s h g o (tableAt s (h .«one_is_zero») t (g % h .«entries_per_table»)))
+    (lookupEntry s h g o (meaningAt s (h .«one_is_zero») t (g % h .«entries_per_table»)))
 
 unfoldable pub lookupIn : List ℕ → Header → ℕ → LookupAnswer
 lookupIn s h x =
     let g = x / h .«grain_size» in
     pick (leb (h .capacity) x) (Refused SectorPast)
     (pick (directoryMisplaced (fileSectors s) h) (Refused Misplaced)
-    (lookupTable s h g (x % h .«grain_size») (tableAt s (h .«one_is_zero») (h .directory) (g / h .«entries_per_table»))))
+    (lookupTable s h g (x % h .«grain_size») (meaningAt s (h .«one_is_zero») (h .directory) (g / h .«entries_per_table»))))
 
 unfoldable pub lookupFrom : List ℕ → ℕ → HeaderAnswer → LookupAnswer
-lookupFrom s x (unknown r) = Refused r
+lookupFrom s x (headerRefused r) = Refused r
 lookupFrom s x (Known h) = lookupIn s h x
 
-abbrev pub lookup : List ℕ → ℕ → LookupAnswer
-lookup s x = lookupFrom s x (judge s)
+abbrev pub sectorLookup : List ℕ → ℕ → LookupAnswer
+sectorLookup s x = lookupFrom s x (judge s)
 
 -- ---- the grain reader: 512 bytes for stored, the payload after the 12 marker bytes for packed, else nothing
+-- where the bytes stand in the image, and how many there are; 0 and 0 where there are none
+abbrev pub sourcePart : Source → Part
+sourcePart Absent = record { at = 0; length = 0 }
+sourcePart Zero = record { at = 0; length = 0 }
+sourcePart (Stored sector) = record { at = 512 * sector; length = 512 }
+sourcePart (Packed marker size o) = record { at = 512 * marker + 12; length = size }
+
+abbrev pub answerPart : LookupAnswer → Part
+answerPart (Found source) = sourcePart source
+answerPart (Refused r) = record { at = 0; length = 0 }
+
+-- the bytes themselves
+abbrev pub partBytes : List ℕ → Part → List ℕ
+partBytes s p = bytesAt s (p .at) (p .length)
+
 unfoldable pub sourceBytes : List ℕ → Source → List ℕ
-sourceBytes s Absent = []
-sourceBytes s Zero = []
-sourceBytes s (Stored sector) = bytesAt s (512 * sector) 512
-sourceBytes s (Packed marker size o) = bytesAt s (512 * marker + 12) size
+sourceBytes s source = partBytes s (sourcePart source)
 
 unfoldable pub answerBytes : List ℕ → LookupAnswer → List ℕ
-answerBytes s (Found source) = sourceBytes s source
-answerBytes s (Refused r) = []
+answerBytes s a = partBytes s (answerPart a)
 
 abbrev pub read : List ℕ → ℕ → List ℕ
-read s x = answerBytes s (lookup s x)
+read s x = answerBytes s (sectorLookup s x)

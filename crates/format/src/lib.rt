@@ -79,7 +79,7 @@ pub enum Entry {
     Sector(u64),
 }
 
-// The lowest grain of a kind.
+// The lowest grain that breaks a rule, or none.
 pub enum Lowest {
     None,
     Grain(u64),

@@ -2,7 +2,7 @@
 use Prim.Native.Nat.{ℕ, _*_, _≤_}
 use mathlib.Core.Path.{_≡_, sym, ap, _∙_}
 use mathlib.Core.List.{List}
-use mathlib.Core.Bool.{Bool, true, false, not, _||_}
+use mathlib.Core.Bool.{Bool, true, false, not}
 use native.Mathlib.Omega.{arith}
 use native.Mathlib.Nat.{mul-pos, mul-le-mul}
 use lib.Dec.{ltb, eqb}
@@ -13,8 +13,9 @@ use Rattle.base.specs.Rounding.{powerUpTo}
 use Rattle.base.proofs.Steps.{or-no, not-no}
 use Rattle.base.proofs.Rounding.{power-least, power-most}
 use Rattle.format.specs.Geometry.{fileSectors}
-use Rattle.format.specs.Kdmv.{allOnes, versionBroken, newlineBroken, flagsBroken, capacityBroken, grainSizeBroken, kdmvSizesBroken, kdmvFault, footerDirectory, footerBroken}
-use Rattle.format.specs.Cowd.{cowdVersionBroken, cowdSizesBroken, countBroken, cowdFault}
+use Rattle.format.specs.Kdmv.{allOnes, versionBroken, newlineBroken, flagsBroken, capacityBroken, grainSizeBroken}
+use Rattle.format.specs.Kdmv.{kdmvSizesBroken, kdmvFault, footerDirectory, footerBroken}
+use Rattle.format.specs.Cowd.{cowdSizesBroken}
 use Rattle.format.specs.Header.{kdmvHeader, directoryOf, unlessFault}
 use Rattle.format.specs.declared.KdmvFields.{KdmvFields}
 use Rattle.format.specs.declared.CowdFields.{CowdFields}
@@ -29,7 +30,8 @@ use Rattle.header.specs.Sized.{Sized}
 
 -- ---- sizes
 -- what a table covers can be counted
-pub covered : {perTable size : ℕ} → 1 ≤ perTable → perTable ≤ 4096 → 1 ≤ size → size ≤ 2048 → (1 ≤ perTable * size) × (perTable * size ≤ 8388608)
+pub covered : {perTable size : ℕ} → 1 ≤ perTable → perTable ≤ 4096 → 1 ≤ size → size ≤ 2048 → (1 ≤ perTable * size)
+    × (perTable * size ≤ 8388608)
 covered a b c d = (mul-pos a c, mul-le-mul b d)
 
 pub sized : (least c size : ℕ) → capacityBroken c ≡ false → grainSizeBroken least size ≡ false → Sized c size
@@ -65,11 +67,13 @@ footer-long s e f =
 
 -- the header where the directory is at the end, and where not
 module _ (s : List ℕ) (k : KdmvFields) (h : Header) where
-  pub at-end : {d : ℕ} → h ≡ kdmvHeader k d → d ≡ footerDirectory s → k .directory ≡ allOnes → Known h ≡ Known (kdmvHeader k (directoryOf s k))
+  pub at-end : {d : ℕ} → h ≡ kdmvHeader k d → d ≡ footerDirectory s → k .directory ≡ allOnes → Known h
+      ≡ Known (kdmvHeader k (directoryOf s k))
   unfolding directoryOf pick
   at-end e q p = rw (eq-eqb _ _ p, ← q) (ap Known e)
 
-  pub not-at-end : h ≡ kdmvHeader k (k .directory) → (k .directory ≡ allOnes → ⊥) → Known h ≡ Known (kdmvHeader k (directoryOf s k))
+  pub not-at-end : h ≡ kdmvHeader k (k .directory) → (k .directory ≡ allOnes → ⊥) → Known h
+      ≡ Known (kdmvHeader k (directoryOf s k))
   unfolding directoryOf pick
   not-at-end e n = rw (ne-eqb _ _ n) (ap Known e)
 

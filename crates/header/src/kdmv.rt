@@ -1,12 +1,13 @@
 // A KDMV header, sector 0: refusals 1 and 3 to 7.
 ghost use mathlib.Core.Path.{_≡_};
-ghost use mathlib.Core.Bool.{_&&_};
+ghost use mathlib.Core.Bool.{not, _&&_};
 ghost use Prim.Native.Nat.{_+_, _≤_};
 ghost use lib.ListN.{length};
 ghost use Rattle.base.specs.Strings.{sameAt};
 ghost use Rattle.base.specs.Bytes.{zeros};
 ghost use Rattle.format.specs.Geometry.{bytesAt};
-ghost use Rattle.format.specs.Kdmv.{kdmvFields, versionBroken, newlineBroken, otherFlags, flagsBroken, atEnd, kdmvSizesBroken, kdmvFault, footerDirectory, footerBroken};
+ghost use Rattle.format.specs.Kdmv.{kdmvFields, versionBroken, newlineBroken, otherFlags, flagsBroken, atEnd, kdmvSizesBroken};
+ghost use Rattle.format.specs.Kdmv.{kdmvFault, footerDirectory, footerBroken};
 ghost use Rattle.format.specs.Header.{kdmvHeader, directoryOf, withFooter, judgeKdmv};
 ghost use Rattle.header.specs.Sized.{Sized};
 use super::sizes::capacity_broken;
@@ -115,21 +116,23 @@ fn fault(k: KdmvFields) -> Fault
     Fault::None
 }
 
-// Whether the footer, from byte `at` on, equals sector 0 in all bytes but 56 to 63.
-fn footer_same(image: &[u8], at: usize) -> bool
+// Whether the footer, from byte `at` on, differs from sector 0 in a byte that is not one of 56 to 63.
+fn footer_differs(image: &[u8], at: usize) -> bool
     requires { ⌜ (512 ≤ at) × (at + 512 ≤ length (now image)) ⌝ }
-    ensures { λ r. ⌜ r ≡ (sameAt (now (image .entry)) at (bytesAt (now (image .entry)) 0 56) && sameAt (now (image .entry)) (at + 64) (bytesAt (now (image .entry)) 64 448)) ⌝ }
+    ensures { λ r.
+        ⌜ r ≡ not (sameAt (now (image .entry)) at (bytesAt (now (image .entry)) 0 56)
+        && sameAt (now (image .entry)) (at + 64) (bytesAt (now (image .entry)) 64 448)) ⌝ }
 {
-    base::same_at(image, at, &image[0..56]) & base::same_at(image, at + 64, &image[64..512])
+    !(base::same_at(image, at, &image[0..56]) & base::same_at(image, at + 64, &image[64..512]))
 }
 
-// Whether the 512 bytes from byte `at` on are zero.
-fn sector_zero(image: &[u8], at: usize) -> bool
+// Whether one of the 512 bytes from byte `at` on is not zero.
+fn sector_not_zero(image: &[u8], at: usize) -> bool
     requires { ⌜ at + 512 ≤ length (now image) ⌝ }
-    ensures { λ r. ⌜ r ≡ sameAt (now (image .entry)) at (zeros 512) ⌝ }
+    ensures { λ r. ⌜ r ≡ not (sameAt (now (image .entry)) at (zeros 512)) ⌝ }
 {
     let none = [0u8; 512];
-    base::same_at(image, at, &none)
+    !base::same_at(image, at, &none)
 }
 
 // Whether a rule of the footer, sector F-2, or of the last sector is broken.
@@ -145,13 +148,13 @@ fn footer_broken(image: &[u8]) -> bool
     }
     let footer = 512 * (sectors - 2);
     let last = 512 * (sectors - 1);
-    if footer_same(image, footer) {
-        if sector_zero(image, last) {
-            return base::u64_at(image, footer + 56) == ALL_ONES;
-        }
+    if footer_differs(image, footer) {
         return true;
     }
-    true
+    if sector_not_zero(image, last) {
+        return true;
+    }
+    base::u64_at(image, footer + 56) == ALL_ONES
 }
 
 fn footer_directory(image: &[u8]) -> u64

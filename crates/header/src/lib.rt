@@ -1,6 +1,8 @@
 // Judging a header: refusals 1 to 7, of both kinds, and the one record that all calls pass round.
 ghost use mathlib.Core.Path.{_≡_};
 ghost use Rattle.format.specs.Header.{judge};
+ghost use Rattle.format.specs.Chain.{unlike};
+use format::Header;
 use format::HeaderAnswer;
 use format::Refusal;
 
@@ -22,4 +24,11 @@ pub fn judge(image: &[u8]) -> HeaderAnswer
         return cowd::judge(image);
     }
     HeaderAnswer::Refused(Refusal::Magic)
+}
+
+// 22: two capacities or two grain sizes differ.
+pub fn unlike(a: Header, b: Header) -> bool
+    ensures { λ r. ⌜ r ≡ unlike a b ⌝ }
+{
+    !((a.capacity == b.capacity) & (a.grain_size == b.grain_size))
 }

@@ -1,8 +1,8 @@
 // Sizes of either kind: what refusal 6 judges, and what is computed from them.
 ghost use mathlib.Core.Path.{_≡_};
-ghost use Prim.Native.Nat.{_≤_, _<_};
+ghost use Prim.Native.Nat.{_≤_, _<_, min};
 ghost use Rattle.base.specs.Rounding.{powerUpTo};
-ghost use Rattle.format.specs.Geometry.{directoryEntries, directorySectors};
+ghost use Rattle.format.specs.Geometry.{grains, directoryEntries, directorySectors};
 ghost use Rattle.format.specs.Kdmv.{capacityBroken, grainSizeBroken};
 ghost use Rattle.header.specs.Sized.{Sized};
 
@@ -31,6 +31,24 @@ pub fn grain_size_broken(least: u64, size: u64) -> bool
     ensures { λ r. ⌜ r ≡ grainSizeBroken least size ⌝ }
 {
     (size < least) | !power(size)
+}
+
+// The grains of an image.
+pub fn grains_of(capacity: u64, grain_size: u64) -> u64
+    requires { ⌜ Sized capacity «grain_size» ⌝ }
+    ensures { λ r. ⌜ (r ≡ grains capacity «grain_size») × (r ≤ 0x80000000) ⌝ }
+{
+    base::ceil_div(capacity, grain_size)
+}
+
+// The entries of a table that are in use, where so many grains are left from its first entry on: 9 to 12 judge no other.
+pub fn entries_in_use(per_table: u64, left: u64) -> u64
+    ensures { λ r. ⌜ r ≡ min «per_table» left ⌝ }
+{
+    if per_table <= left {
+        return per_table;
+    }
+    left
 }
 
 // Directory entries in use, of tables of `per_table` entries.

@@ -7,8 +7,8 @@ use mathlib.Core.Logic.{⊎-elim}
 use lib.Dec.{eqb}
 use borrow.Author.Tests.{eqb-false, eq-eqb, ne-eqb}
 use Rattle.base.proofs.Steps.{true-or-false}
-use Rattle.format.specs.Header.{entriesOf}
-use Rattle.format.specs.Entries.{entryAt, tableAt, entriesInUse, some}
+use Rattle.format.specs.Header.{directoryEntriesOf}
+use Rattle.format.specs.Entries.{entryAt, meaningAt, entriesInUse, anyBelow}
 use Rattle.format.specs.Check.{copyDiffers, entryDiffers, copiesDiffer}
 use Rattle.format.specs.Accepted.{SameEntry}
 use Rattle.format.specs.Accepted.SameEntry.{absent, zero, tables}
@@ -40,18 +40,22 @@ kept-copy {s} {n} (tables {t} {u} f) = no-some _ n (λ k l. rw (eq-eqb (entryAt 
 
 -- ---- all that are in use
 abbrev pub SameCopies : List ℕ → Header → Type 0
-SameCopies s h = (h .redundant ≡ 0 → ⊥) → (d : ℕ) → d < entriesOf h → SameEntry s (entriesInUse h d) (tableAt s (h .«one_is_zero») (h .directory) d) (tableAt s (h .«one_is_zero») (h .redundant) d)
+SameCopies s h =
+    (h .redundant ≡ 0 → ⊥) → (d : ℕ) → d < directoryEntriesOf h
+    → SameEntry s (entriesInUse h d) (meaningAt s (h .«one_is_zero») (h .directory) d)
+    (meaningAt s (h .«one_is_zero») (h .redundant) d)
 
 module _ (s : List ℕ) (h : Header) where
   pub copies-kept : copiesDiffer s h ≡ false → SameCopies s h
   unfolding copiesDiffer
   copies-kept e n d l =
-      let q : some (entryDiffers s h) (entriesOf h) ≡ false = sym (pick-else (eqb (h .redundant) 0) _ _ (ne-eqb (h .redundant) 0 n)) ∙ e in
-      copy-kept s _ _ _ (some-no (entryDiffers s h) (entriesOf h) q d l)
+      let q : anyBelow (entryDiffers s h) (directoryEntriesOf h) ≡ false =
+      sym (pick-else (eqb (h .redundant) 0) _ _ (ne-eqb (h .redundant) 0 n)) ∙ e in
+      copy-kept s _ _ _ (some-no (entryDiffers s h) (directoryEntriesOf h) q d l)
 
   pub kept-copies : SameCopies s h → copiesDiffer s h ≡ false
   unfolding copiesDiffer
   kept-copies f =
       ⊎-elim (λ z. pick-then _ _ _ z)
-      (λ n. pick-else _ _ _ n ∙ no-some (entryDiffers s h) (entriesOf h) (λ d l. kept-copy (f (eqb-false _ _ n) d l)))
+      (λ n. pick-else _ _ _ n ∙ no-some (entryDiffers s h) (directoryEntriesOf h) (λ d l. kept-copy (f (eqb-false _ _ n) d l)))
       (true-or-false (eqb (h .redundant) 0))

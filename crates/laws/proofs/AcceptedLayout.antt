@@ -1,79 +1,40 @@
 -- 8 to 12: a header's image is accepted exactly where the area rules hold.
 use Prim.Native.Nat.{ℕ}
-use mathlib.Core.Path.{_≡_, refl, _∙_}
+use mathlib.Core.Path.{_≡_, _∙_}
 use mathlib.Core.List.{List}
-use mathlib.Core.Bool.{Bool, false}
-use native.Mathlib.Omega.{arith}
-use Rattle.base.specs.Pick.{pick}
 use Rattle.format.specs.Geometry.{fileSectors}
 use Rattle.format.specs.Header.{grainsOf}
-use Rattle.format.specs.Areas.{grainArea, areas, meet}
-use Rattle.format.specs.Check.{misplaced, grainPast, lowestPast, lowestBadMarker, copiesDiffer, unlessGrain, checkApart, checkCopies, checkGrains, checkLayout}
+use Rattle.format.specs.Areas.{grainArea, areas}
+use Rattle.format.specs.Check.{grainPast, unlessGrain, checkApart, checkCopies, checkGrains, checkLayout}
 use Rattle.format.specs.Accepted.{AreaRules}
 use Rattle.format.specs.declared.Header.{Header}
 use Rattle.format.specs.declared.Lowest.{Lowest}
-use Rattle.format.specs.declared.Lowest.the-variants.{None, Grain}
+use Rattle.format.specs.declared.Lowest.the-variants.{None}
 use Rattle.format.specs.declared.Refusal.{Refusal}
-use Rattle.format.specs.declared.Refusal.the-variants.{GrainPast, Marker}
 use Rattle.format.specs.declared.CheckAnswer.{CheckAnswer}
-use Rattle.format.specs.declared.CheckAnswer.the-variants.{Accepted, Refused}
+use Rattle.format.specs.declared.CheckAnswer.the-variants.{Accepted}
 use Rattle.format.proofs.Areas.{meet-apart, apart-meet}
-use Rattle.format.proofs.Picked.{pick-else, passed}
+use Rattle.format.proofs.Picked.{pick-else}
 use Rattle.format.proofs.Inside.{each-in, in-each, rows-in, groups-in, in-groups}
 use Rattle.format.proofs.LowestGrain.{lowest-none}
+use Rattle.format.proofs.Passed.{layout-passed}
 use Rattle.format.proofs.Filed.{Fronted, inside-all}
 use Rattle.format.proofs.Places.{Places, places-kept, kept-places}
 use Rattle.laws.proofs.AcceptedCopies.{copies-kept, kept-copies}
 use Rattle.laws.proofs.AcceptedMarkers.{markers-kept, kept-markers}
 
 -- ---- the steps of a check
-accepted-past : (b : Bool) (r : Refusal) (y : CheckAnswer) (c g : ℕ) → pick b (Refused r) y ≡ Accepted c g → (b ≡ false) × (y ≡ Accepted c g)
-accepted-past b r y c g e = passed b (Refused r) y (Accepted c g) (λ q. let z : _≡_ {A = ℕ} 0 1 = cc in omega arith) e
-
-accepted-grain : (l : Lowest) (refusal : ℕ → Refusal) (y : CheckAnswer) (c g : ℕ) → unlessGrain l refusal y ≡ Accepted c g → (l ≡ None) × (y ≡ Accepted c g)
-unfolding unlessGrain
-accepted-grain None refusal y c g e = (refl, e)
-accepted-grain (Grain k) refusal y c g e = let z : _≡_ {A = ℕ} 0 1 = cc in absurd (omega arith)
-
 no-grain : (l : Lowest) (refusal : ℕ → Refusal) (y : CheckAnswer) → l ≡ None → unlessGrain l refusal y ≡ y
 unfolding unlessGrain
 no-grain l refusal y e = rw e
 
 module _ (s : List ℕ) (h : Header) where
-  -- what a check that accepts has found
-  record Passed (c g : ℕ) : Type 0 where
-    places : misplaced s h ≡ false
-    grains : lowestPast s h ≡ None
-    markers : lowestBadMarker s h ≡ None
-    copies : copiesDiffer s h ≡ false
-    apart : meet (areas s h) ≡ false
-    capacity : c ≡ h .capacity
-    size : g ≡ h .«grain_size»
-
-  check-passed : (c g : ℕ) → checkLayout s h ≡ Accepted c g → Passed c g
-  unfolding checkLayout checkGrains checkCopies checkApart
-  check-passed c g e =
-      let a = accepted-past (misplaced s h) _ _ c g e in
-      let b = accepted-grain (lowestPast s h) GrainPast _ c g (a .1) in
-      let d = accepted-grain (lowestBadMarker s h) Marker _ c g (b .1) in
-      let i = accepted-past (copiesDiffer s h) _ _ c g (d .1) in
-      let j = accepted-past (meet (areas s h)) _ _ c g (i .1) in
-      let same = j .1 in
-      record {
-        places = a .0;
-        grains = b .0;
-        markers = d .0;
-        copies = i .0;
-        apart = j .0;
-        capacity = cc;
-        size = cc;
-      }
-
   -- ---- where the header's own areas lie in the file, the check finds all that the rules say
   -- what is not refused 8 to 12 keeps the area rules
-  pub layout-sound : Fronted s h → (c g : ℕ) → checkLayout s h ≡ Accepted c g → (AreaRules s h) × (c ≡ h .capacity) × (g ≡ h .«grain_size»)
+  pub layout-sound : Fronted s h → (c g : ℕ) → checkLayout s h ≡ Accepted c g → (AreaRules s h) × (c ≡ h .capacity)
+      × (g ≡ h .«grain_size»)
   layout-sound b c g e =
-      let p = check-passed c g e in
+      let p = layout-passed s h c g e in
       let q = places-kept s h (p .places) in (
         record {
           descriptor = q .both;

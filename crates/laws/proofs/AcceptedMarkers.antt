@@ -9,7 +9,7 @@ use borrow.Author.Tests.{eqb-true, eqb-false, eq-eqb, ne-eqb, not-false}
 use Rattle.base.proofs.Steps.{or-no}
 use Rattle.format.specs.Header.{grainsOf}
 use Rattle.format.specs.Entries.{grainEntry, markerFirst, markerSize, markerBroken}
-use Rattle.format.specs.Check.{markerAt, badMarker, lowestBadMarker}
+use Rattle.format.specs.Check.{markerBrokenAt, badMarker, lowestBadMarker}
 use Rattle.format.specs.declared.Header.{Header}
 use Rattle.format.specs.declared.Entry.{Entry}
 use Rattle.format.specs.declared.Entry.the-variants.{Absent, Zero, Sector}
@@ -33,8 +33,9 @@ module _ (s : List ℕ) (size g e : ℕ) where
   kept-marker r = rw (ne-eqb (markerSize s e) 0 (omega (arith, r .0)), eq-eqb (markerFirst s e) (g * size) (r .1))
 
 -- an entry's marker, if it has one
-entry-kept : (s : List ℕ) (size g : ℕ) (d : Entry) → ((e : ℕ) → d ≡ Sector e → MarkerRules s size g e) → markerAt s size g d ≡ false
-unfolding markerAt
+entry-kept : (s : List ℕ) (size g : ℕ) (d : Entry) → ((e : ℕ) → d ≡ Sector e → MarkerRules s size g e)
+    → markerBrokenAt s size g d ≡ false
+unfolding markerBrokenAt
 entry-kept s size g Absent f = refl
 entry-kept s size g Zero f = refl
 entry-kept s size g (Sector e) f = kept-marker s size g e (f e refl)
@@ -45,10 +46,11 @@ module _ (s : List ℕ) (h : Header) where
   AllMarkers = h .packed ≡ true → (g e : ℕ) → g < grainsOf h → grainEntry s h g ≡ Sector e → MarkerRules s (h .«grain_size») g e
 
   pub markers-kept : lowestBadMarker s h ≡ None → AllMarkers
-  unfolding markerAt
+  unfolding markerBrokenAt
   markers-kept q p g e l is =
       marker-kept s (h .«grain_size») g e
-      (rw is at (and-no (h .packed) (markerAt s (h .«grain_size») g (grainEntry s h g)) (none-lowest (badMarker s h) (grainsOf h) q g l) p))
+      (rw is at (and-no (h .packed) (markerBrokenAt s (h .«grain_size») g (grainEntry s h g))
+      (none-lowest (badMarker s h) (grainsOf h) q g l) p))
 
   pub kept-markers : AllMarkers → lowestBadMarker s h ≡ None
   kept-markers f =

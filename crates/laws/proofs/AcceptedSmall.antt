@@ -12,9 +12,10 @@ use Rattle.format.specs.Geometry.{grains, directoryEntries, directorySectors}
 use Rattle.format.specs.Kdmv.{kdmvFields, kdmvFault}
 use Rattle.format.specs.Cowd.{cowdFields, cowdFault}
 use Rattle.format.specs.Header.{kdmvHeader, cowdHeader, directoryOf, unlessFault, withFooter, judgeKdmv, judgeCowd, judge}
-use Rattle.format.specs.Entries.{meaning, inTable, entryOf, grainSectors, some}
+use Rattle.format.specs.Entries.{meaning, inTable, entryOfGrain, grainSectors, anyBelow}
 use Rattle.format.specs.Areas.{ifThere, named, redundantTables, areas, runsPast, shares, sharesAny, meet}
-use Rattle.format.specs.Check.{misplaced, lowestFrom, copiesDiffer, unlessGrain, checkApart, checkCopies, checkGrains, checkLayout, checkFrom, check}
+use Rattle.format.specs.Check.{misplaced, lowestFrom, copiesDiffer, unlessGrain, checkApart, checkCopies, checkGrains}
+use Rattle.format.specs.Check.{checkLayout, checkFrom, check}
 use Rattle.format.specs.Accepted.{Accepted}
 use Rattle.format.specs.declared.CheckAnswer.the-variants.{Accepted as accepted}
 use Rattle.format.proofs.Images.{cowdSectors, small}
@@ -22,7 +23,7 @@ use Rattle.laws.proofs.AcceptedImage.{accepted-sound}
 
 -- capacity 16, grain size 8, grain 0 stored at sector 8
 kdmv-check : check (small 8 0 0 10) ≡ accepted 16 8
-unfolding pick powerUpTo leAt leBytes sameAt zeros rows grains directoryEntries directorySectors kdmvFields kdmvFault kdmvHeader directoryOf unlessFault withFooter judgeKdmv judge meaning inTable entryOf grainSectors some ifThere named redundantTables areas runsPast shares sharesAny meet misplaced lowestFrom copiesDiffer unlessGrain checkApart checkCopies checkGrains checkLayout checkFrom
+unfolding pick powerUpTo leAt leBytes sameAt zeros rows grains directoryEntries directorySectors kdmvFields kdmvFault kdmvHeader directoryOf unlessFault withFooter judgeKdmv judge meaning inTable entryOfGrain grainSectors anyBelow ifThere named redundantTables areas runsPast shares sharesAny meet misplaced lowestFrom copiesDiffer unlessGrain checkApart checkCopies checkGrains checkLayout checkFrom
 kdmv-check = refl
 
 pub kdmv-accepted : Accepted (small 8 0 0 10)
@@ -33,7 +34,7 @@ abbrev pub cowdSmall : List ℕ
 cowdSmall = cowdSectors 1 1 4 1 ++ zeros 512
 
 cowd-check : check cowdSmall ≡ accepted 1 1
-unfolding pick powerUpTo leAt leBytes sameAt zeros rows grains directoryEntries directorySectors cowdFields cowdFault cowdHeader unlessFault judgeCowd judge meaning inTable entryOf grainSectors some ifThere named redundantTables areas runsPast shares sharesAny meet misplaced lowestFrom copiesDiffer unlessGrain checkApart checkCopies checkGrains checkLayout checkFrom
+unfolding pick powerUpTo leAt leBytes sameAt zeros rows grains directoryEntries directorySectors cowdFields cowdFault cowdHeader unlessFault judgeCowd judge meaning inTable entryOfGrain grainSectors anyBelow ifThere named redundantTables areas runsPast shares sharesAny meet misplaced lowestFrom copiesDiffer unlessGrain checkApart checkCopies checkGrains checkLayout checkFrom
 cowd-check = refl
 
 pub cowd-accepted : Accepted cowdSmall

@@ -5,36 +5,36 @@ use mathlib.Core.Path.{_≡_, refl, sym, ap, _∙_}
 use mathlib.Core.Bool.{Bool, false, _||_}
 use mathlib.Core.List.{List}
 use native.Mathlib.Omega.{arith}
-use lib.Dec.{ltb, eqb}
+use lib.Dec.{ltb}
 use lib.ListN.{length, take}
 use lib.Seq.{take-append-seam}
-use borrow.Author.Tests.{ltb-false, eqb-true}
+use borrow.Author.Tests.{ltb-false}
 use Rattle.base.specs.Pick.{pick}
 use Rattle.base.specs.Bytes.{over}
-use Rattle.base.proofs.Steps.{or-no, and-yes, not-no}
+use Rattle.base.proofs.Steps.{or-no}
 use Rattle.format.specs.Header.{headerOf}
 use Rattle.format.specs.Check.{check}
 use Rattle.format.specs.Chain.{unlike}
 use Rattle.format.specs.Grains.{Map, merge}
 use Rattle.format.specs.Layout.{layoutLength}
-use Rattle.format.specs.Collapse.{mapOf, laidLength, normalForm, collapsed, unlessUnaccepted, notCollapsible, fitted, normalFrom, normal, collapseFrom, collapse, output, normalOutput, collapseOutput}
-use Rattle.format.specs.declared.Header.{Header}
+use Rattle.format.specs.Collapse.{mapOf, laidLength, normalForm, collapsed, ifAccepted, notCollapsible, writtenIfRoom}
+use Rattle.format.specs.Collapse.{normalFrom, normal, collapseFrom, collapse, output, normalOutput, collapseOutput}
 use Rattle.format.specs.declared.Refusal.{Refusal}
 use Rattle.format.specs.declared.CheckAnswer.{CheckAnswer}
 use Rattle.format.specs.declared.CheckAnswer.the-variants.{Accepted, Refused as unaccepted}
 use Rattle.format.specs.declared.CollapseAnswer.{CollapseAnswer}
 use Rattle.format.specs.declared.CollapseAnswer.the-variants.{Written, Refused}
 use Rattle.format.proofs.Picked.{pick-else, passed}
+use Rattle.format.proofs.Layers.{like, alike}
 use Rattle.laws.specs.Layers.{Layer}
 use Rattle.laws.proofs.AcceptedImage.{accepted-sound}
 use Rattle.laws.proofs.CollapsedLayers.{capacity-is, size-is}
-use Rattle.laws.proofs.CollapsedChain.{like}
 use Rattle.laws.proofs.CollapsedImages.{normal-length, collapsed-length}
 
 -- ---- where it was written, nothing was refused
-was-accepted : (a : CheckAnswer) (b : CollapseAnswer) (long : ℕ) → unlessUnaccepted a b ≡ Written long
+was-accepted : (a : CheckAnswer) (b : CollapseAnswer) (long : ℕ) → ifAccepted a b ≡ Written long
     → (c : ℕ) × (size : ℕ) × (a ≡ Accepted c size) × (b ≡ Written long)
-unfolding unlessUnaccepted
+unfolding ifAccepted
 was-accepted (unaccepted r) b long e = let z : _≡_ {A = ℕ} 0 1 = cc in absurd (omega arith)
 was-accepted (Accepted c size) b long e = (c, size, refl, e)
 
@@ -42,18 +42,12 @@ written-past : (b : Bool) (r : Refusal) (y : CollapseAnswer) (long : ℕ) → pi
     → (b ≡ false) × (y ≡ Written long)
 written-past b r y long e = passed b (Refused r) y (Written long) (λ q. let z : _≡_ {A = ℕ} 0 1 = cc in omega arith) e
 
-written-long : (room n long : ℕ) → fitted room n ≡ Written long → (long ≡ n) × (long ≤ room)
-unfolding fitted
+written-long : (room n long : ℕ) → writtenIfRoom room n ≡ Written long → (long ≡ n) × (long ≤ room)
+unfolding writtenIfRoom
 written-long room n long e =
     let r = written-past (ltb room n) _ _ long e in
     let q : long ≡ n = cc in
     (q, rw q (ltb-false _ _ (r .0)))
-
-alike : (a b : Header) → unlike a b ≡ false → (a .capacity ≡ b .capacity) × (a .«grain_size» ≡ b .«grain_size»)
-unfolding unlike
-alike a b e =
-    let r = and-yes (eqb (a .capacity) (b .capacity)) (eqb (a .«grain_size») (b .«grain_size»)) (not-no _ e) in
-    (eqb-true _ _ (r .0), eqb-true _ _ (r .1))
 
 own-layer : (s : List ℕ) (c size : ℕ) → check s ≡ Accepted c size → notCollapsible (headerOf s) ≡ false
     → Layer (headerOf s .capacity) (headerOf s .«grain_size») s
@@ -67,13 +61,13 @@ laid-length p m = rw (capacity-is p, size-is p)
 -- ---- collapse
 -- two layers are refused 21 or nothing
 pub layers-collapse : {c size : ℕ} {lower upper : List ℕ} → Layer c size lower → Layer c size upper → (room : ℕ)
-    → collapse lower upper room ≡ fitted room (length (collapsed lower upper))
-unfolding unlessUnaccepted collapseFrom
+    → collapse lower upper room ≡ writtenIfRoom room (length (collapsed lower upper))
+unfolding ifAccepted collapseFrom
 layers-collapse {lower = lower} {upper = upper} p q room =
     rw (p .accepted, q .accepted)
     (pick-else _ _ _ (rw (p .collapsible, q .collapsible))
     ∙ pick-else _ _ _ (like _ _ (capacity-is p ∙ sym (capacity-is q)) (size-is p ∙ sym (size-is q)))
-    ∙ ap (fitted room) (laid-length p (merge (mapOf lower) (mapOf upper)) ∙ sym (collapsed-length p q)))
+    ∙ ap (writtenIfRoom room) (laid-length p (merge (mapOf lower) (mapOf upper)) ∙ sym (collapsed-length p q)))
 
 module _ (lower upper : List ℕ) (room long : ℕ) (e : collapse lower upper room ≡ Written long) where
   -- what was written came of two layers, and fits
@@ -102,10 +96,12 @@ collapse-output lower upper out long e =
     rw (e, collapse-layers lower upper (length out) long e .2) (take-append-seam (collapsed lower upper) _)
 
 -- ---- normal form
-pub layer-normal : {c size : ℕ} {s : List ℕ} → Layer c size s → (room : ℕ) → normal s room ≡ fitted room (length (normalForm s))
-unfolding unlessUnaccepted normalFrom
+pub layer-normal : {c size : ℕ} {s : List ℕ} → Layer c size s → (room : ℕ) → normal s room
+    ≡ writtenIfRoom room (length (normalForm s))
+unfolding ifAccepted normalFrom
 layer-normal {s = s} p room =
-    rw (p .accepted) (pick-else _ _ _ (p .collapsible) ∙ ap (fitted room) (laid-length p (mapOf s) ∙ sym (normal-length p)))
+    rw (p .accepted) (pick-else _ _ _ (p .collapsible)
+    ∙ ap (writtenIfRoom room) (laid-length p (mapOf s) ∙ sym (normal-length p)))
 
 module _ (s : List ℕ) (room long : ℕ) (e : normal s room ≡ Written long) where
   pub normal-layer : (Layer (headerOf s .capacity) (headerOf s .«grain_size») s)

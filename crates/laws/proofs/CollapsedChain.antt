@@ -10,10 +10,10 @@ use lib.Seq.{take-append-seam, drop-append-add}
 use borrow.Author.Tests.{le-ltb, le-leb, lt-leb, eq-eqb, ne-eqb}
 use Rattle.base.specs.Pick.{pick}
 use Rattle.format.specs.Header.{headerOf, judge}
-use Rattle.format.specs.Chain.{sum, layerAt, lengthsBroken, unlessUnknown, headersDown, unlike, layersDiffer, unlessAbsent, walkDown, walk, chain}
-use Rattle.format.specs.Grains.{Grain, absent, onto}
+use Rattle.format.specs.Chain.{lengthsSum, layerAt, lengthsBroken, ifKnown, headersDown, layersDiffer, unlessAbsent, walkDown}
+use Rattle.format.specs.Chain.{walk, chainLookup}
+use Rattle.format.specs.Grains.{Grain, absent, upperUnlessAbsent}
 use Rattle.format.specs.Collapse.{mapOf}
-use Rattle.format.specs.declared.Header.{Header}
 use Rattle.format.specs.declared.Source.{Source}
 use Rattle.format.specs.declared.Source.the-variants.{Absent, Zero, Stored}
 use Rattle.format.specs.declared.LayerSource.{LayerSource}
@@ -24,16 +24,18 @@ use Rattle.format.specs.declared.ChainAnswer.{ChainAnswer}
 use Rattle.format.specs.declared.ChainAnswer.the-variants.{Found, Refused}
 use Rattle.format.proofs.Picked.{pick-then, pick-else}
 use Rattle.format.proofs.Entries.{no-some}
-use Rattle.laws.specs.Layers.{Layer, Every, none, more, endToEnd, lengthsOf, stack}
+use Rattle.format.proofs.Layers.{like}
+use Rattle.laws.specs.Layers.{Layer, Every, none, more, endToEnd, lengthsOf, mapOfLayers}
 use Rattle.laws.proofs.ServedSectors.{accepted-good}
 use Rattle.laws.proofs.CollapsedMaps.{onto-assoc, onto-nothing}
 use Rattle.laws.proofs.CollapsedLayers.{layer-accepted, capacity-is, size-is}
-use Rattle.laws.proofs.CollapsedSectors.{sectorIn, sector-onto, Tells, tells-absent, tells-zero, tells-stored, Looked, looked}
+use Rattle.laws.proofs.CollapsedSectors.{sectorIn, sector-onto, Tells, tells-absent, tells-zero, tells-stored, Looked}
+use Rattle.laws.proofs.CollapsedSectors.{looked}
 
 -- ---- layers end to end
 -- layer k is the k-th
 pub layer-at : (l : List (List ℕ)) (k : ℕ) → k < length l → layerAt (endToEnd l) (lengthsOf l) k ≡ getD l k []
-unfolding endToEnd lengthsOf sum
+unfolding endToEnd lengthsOf lengthsSum
 layer-at [] k h = absurd (omega arith)
 layer-at (s ∷ l) zero h = take-append-seam s (endToEnd l)
 layer-at (s ∷ l) (suc k) h = rw (drop-append-add) (layer-at l k (omega arith))
@@ -43,8 +45,8 @@ unfolding lengthsOf
 lengths-count [] = refl
 lengths-count (s ∷ l) = ap suc (lengths-count l)
 
-lengths-sum : (l : List (List ℕ)) → sum (lengthsOf l) ≡ length (endToEnd l)
-unfolding lengthsOf endToEnd sum
+lengths-sum : (l : List (List ℕ)) → lengthsSum (lengthsOf l) ≡ length (endToEnd l)
+unfolding lengthsOf endToEnd lengthsSum
 lengths-sum [] = refl
 lengths-sum (s ∷ l) = rw (length-append, lengths-sum l)
 
@@ -53,27 +55,23 @@ every-at [] none k h = absurd (omega arith)
 every-at (s ∷ l) (more p e) zero h = p
 every-at (s ∷ l) (more p e) (suc k) h = every-at l e k (omega arith)
 
-pub like : (a b : Header) → a .capacity ≡ b .capacity → a .«grain_size» ≡ b .«grain_size» → unlike a b ≡ false
-unfolding unlike
-like a b e f = rw (eq-eqb (a .capacity) (b .capacity) e, eq-eqb (a .«grain_size») (b .«grain_size») f)
-
 -- ---- the grain of n layers, by their numbers
 unfoldable topmost : (ℕ → Grain) → ℕ → Grain
 topmost f zero = absent
-topmost f (suc n) = onto (topmost f n) (f n)
+topmost f (suc n) = upperUnlessAbsent (topmost f n) (f n)
 
-topmost-first : (f : ℕ → Grain) (n : ℕ) → topmost f (suc n) ≡ onto (f 0) (topmost (λ k. f (suc k)) n)
-unfolding topmost onto
+topmost-first : (f : ℕ → Grain) (n : ℕ) → topmost f (suc n) ≡ upperUnlessAbsent (f 0) (topmost (λ k. f (suc k)) n)
+unfolding topmost upperUnlessAbsent
 topmost-first f zero = onto-nothing (f 0)
 topmost-first f (suc n) = rw (topmost-first f n) (onto-assoc (f 0) (topmost (λ k. f (suc k)) n) (f (suc n)))
 
 topmost-stack : (o g : ℕ) (l : List (List ℕ))
-    → topmost (λ k. sectorIn o (mapOf (getD l k []) g)) (length l) ≡ sectorIn o (stack l g)
-unfolding topmost stack sectorIn
+    → topmost (λ k. sectorIn o (mapOf (getD l k []) g)) (length l) ≡ sectorIn o (mapOfLayers l g)
+unfolding topmost mapOfLayers sectorIn
 topmost-stack o g [] = refl
 topmost-stack o g (s ∷ l) =
     topmost-first (λ k. sectorIn o (mapOf (getD (s ∷ l) k []) g)) (length l)
-    ∙ rw (topmost-stack o g l, sector-onto o (mapOf s g) (stack l g))
+    ∙ rw (topmost-stack o g l, sector-onto o (mapOf s g) (mapOfLayers l g))
 
 -- ---- the walk
 module _ (s lengths : List ℕ) where
@@ -83,8 +81,8 @@ module _ (s lengths : List ℕ) where
     pub tells : Tells (layerAt s lengths (answer .layer)) (answer .source) g
 
   one-down : (k : ℕ) (a : Source) (g b : Grain) (w : ChainAnswer) → Tells (layerAt s lengths k) a g → Walked w b
-      → Walked (unlessAbsent k (foundIn a) w) (onto b g)
-  unfolding unlessAbsent onto
+      → Walked (unlessAbsent k (foundIn a) w) (upperUnlessAbsent b g)
+  unfolding unlessAbsent upperUnlessAbsent
   one-down k a g b w tells-absent q = q
   one-down k a g b w tells-zero q = record { answer = record { layer = k; source = Zero }; is = refl; tells = tells-zero }
   one-down k a g b w (tells-stored {a = n} e l) q =
@@ -101,7 +99,7 @@ module _ (s lengths : List ℕ) where
   -- headers that are all known let the walk begin
   headers-known : (n : ℕ) (a : ChainAnswer)
       → ((k : ℕ) → k < n → judge (layerAt s lengths k) ≡ Known (headerOf (layerAt s lengths k))) → headersDown s lengths n a ≡ a
-  unfolding headersDown unlessUnknown
+  unfolding headersDown ifKnown
   headers-known zero a h = refl
   headers-known (suc n) a h = rw (h n (omega arith)) (headers-known n a (λ k b. h k (omega arith)))
 
@@ -124,9 +122,9 @@ module _ {c size : ℕ} (l : List (List ℕ)) (e : Every (Layer c size) l) where
 
     -- nothing but 20 can refuse it
     chain-is :
-        chain (endToEnd l) (lengthsOf l) x
+        chainLookup (endToEnd l) (lengthsOf l) x
         ≡ pick (leb c x) (Refused 0 SectorPast) (walkDown (endToEnd l) (lengthsOf l) x (length l))
-    unfolding chain walk
+    unfolding chainLookup walk
     chain-is =
         pick-else _ _ _ lengths-kept
         ∙ headers-known _ _ (length (lengthsOf l)) _
@@ -135,12 +133,13 @@ module _ {c size : ℕ} (l : List (List ℕ)) (e : Every (Layer c size) l) where
         ∙ rw (capacity-is (each 0 some), lengths-count l)
 
     -- 20: sector at or past the end
-    pub chain-past : c ≤ x → chain (endToEnd l) (lengthsOf l) x ≡ Refused 0 SectorPast
+    pub chain-past : c ≤ x → chainLookup (endToEnd l) (lengthsOf l) x ≡ Refused 0 SectorPast
     chain-past past = chain-is ∙ pick-then _ _ _ (le-leb c x past)
 
     -- below it the topmost layer counts that is not absent
     pub chain-walked : x < c
-        → Walked (endToEnd l) (lengthsOf l) (chain (endToEnd l) (lengthsOf l) x) (sectorIn (x % size) (stack l (x / size)))
+        → Walked (endToEnd l) (lengthsOf l) (chainLookup (endToEnd l) (lengthsOf l) x)
+        (sectorIn (x % size) (mapOfLayers l (x / size)))
     chain-walked low =
         rw (chain-is, pick-else _ _ _ (lt-leb c x low), ← topmost-stack (x % size) (x / size) l)
         (walked _ _ x _ (length l) (λ k h. rw (← layer-at l k h) (looked (each k h) x low)))

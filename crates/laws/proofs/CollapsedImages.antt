@@ -4,15 +4,16 @@ use mathlib.Core.Path.{_≡_, sym, _∙_}
 use mathlib.Core.List.{List}
 use lib.ListN.{length}
 use Rattle.format.specs.Geometry.{grains}
-use Rattle.format.specs.Grains.{merge, nothing}
+use Rattle.format.specs.Grains.{merge, allAbsent}
 use Rattle.format.specs.Layout.{Fits, layoutOf, layoutLength}
 use Rattle.format.specs.Collapse.{mapOf, normalForm, collapsed}
-use Rattle.laws.specs.Layers.{Layer, Alike}
+use Rattle.format.proofs.Grains.{onto-self, onto-whole}
+use Rattle.laws.specs.Layers.{Layer, SameGrains}
 use Rattle.laws.proofs.LayoutNumbers.{Sizes}
 use Rattle.laws.proofs.LayoutParts.{layout-length}
 use Rattle.laws.proofs.LayoutBack.{map-read}
 use Rattle.laws.proofs.LayoutAccepted.{layout-layer}
-use Rattle.laws.proofs.CollapsedMaps.{onto-nothing, nothing-onto, onto-self, onto-whole, layout-same}
+use Rattle.laws.proofs.CollapsedMaps.{onto-nothing, nothing-onto, layout-same}
 use Rattle.laws.proofs.CollapsedLayers.{capacity-is, size-is, layer-sizes, map-fits}
 
 module _ {c size : ℕ} where
@@ -66,19 +67,20 @@ module _ {c size : ℕ} where
   collapsed-self {s} p = collapsed-is p p ∙ layout-same c size _ _ (λ g h. onto-self (mapOf s g)) ∙ sym (normal-is p)
 
   -- so it is with an image whose grains are all absent, on either side
-  module _ {s blank : List ℕ} (p : Layer c size s) (q : Layer c size blank) (none : Alike c size (mapOf blank) nothing) where
-    pub collapsed-absent-below : collapsed blank s ≡ normalForm s
-    collapsed-absent-below =
-        collapsed-is q p ∙ layout-same c size _ _ (λ g h. rw (none g h) (onto-nothing (mapOf s g))) ∙ sym (normal-is p)
+  module _ {s blank : List ℕ} (p : Layer c size s) (q : Layer c size blank) (none : SameGrains c size (mapOf blank) allAbsent)
+    where
+      pub collapsed-absent-below : collapsed blank s ≡ normalForm s
+      collapsed-absent-below =
+          collapsed-is q p ∙ layout-same c size _ _ (λ g h. rw (none g h) (onto-nothing (mapOf s g))) ∙ sym (normal-is p)
 
-    pub collapsed-absent-above : collapsed s blank ≡ normalForm s
-    collapsed-absent-above =
-        collapsed-is p q ∙ layout-same c size _ _ (λ g h. rw (none g h) (nothing-onto (mapOf s g))) ∙ sym (normal-is p)
+      pub collapsed-absent-above : collapsed s blank ≡ normalForm s
+      collapsed-absent-above =
+          collapsed-is p q ∙ layout-same c size _ _ (λ g h. rw (none g h) (nothing-onto (mapOf s g))) ∙ sym (normal-is p)
 
   -- and there is one, of all sizes that an image can have
   module _ (z : Sizes c size) where
-    pub blank-accepted : Layer c size (layoutOf c size nothing)
-    blank-accepted = layout-layer z nothing (λ g h. tt)
+    pub blank-accepted : Layer c size (layoutOf c size allAbsent)
+    blank-accepted = layout-layer z allAbsent (λ g h. tt)
 
-    pub blank-map : Alike c size (mapOf (layoutOf c size nothing)) nothing
-    blank-map = map-read z nothing (λ g h. tt)
+    pub blank-map : SameGrains c size (mapOf (layoutOf c size allAbsent)) allAbsent
+    blank-map = map-read z allAbsent (λ g h. tt)

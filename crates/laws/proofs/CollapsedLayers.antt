@@ -10,11 +10,11 @@ use Rattle.format.specs.Accepted.Accepted.{kdmv, cowd}
 use Rattle.format.specs.Layout.{Fits}
 use Rattle.format.specs.Collapse.{mapOf}
 use Rattle.format.specs.declared.Header.{Header}
+use Rattle.format.proofs.Grains.{grain-whole}
 use Rattle.format.proofs.HeaderJudged.{kdmv-is, cowd-is}
 use Rattle.laws.specs.Layers.{Layer}
 use Rattle.laws.proofs.AcceptedImage.{accepted-sound}
 use Rattle.laws.proofs.LayoutNumbers.{Sizes}
-use Rattle.laws.proofs.CollapsedMaps.{grain-whole}
 
 module _ {c size : ℕ} {s : List ℕ} (p : Layer c size s) where
   pub layer-accepted : Accepted s
@@ -42,4 +42,4 @@ module _ {c size : ℕ} {s : List ℕ} (p : Layer c size s) where
 
   -- its map is one that has a layout
   pub map-fits : Fits c size (mapOf s)
-  map-fits g b = rw (capacity-is, size-is) (grain-whole s c size g _)
+  map-fits g b = rw (capacity-is, size-is) (grain-whole c size g s _)

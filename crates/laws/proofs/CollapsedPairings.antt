@@ -7,7 +7,8 @@ use lib.ListN.{length, getD, length-append}
 use Rattle.format.specs.Grains.{merge}
 use Rattle.format.specs.Layout.{layoutOf}
 use Rattle.format.specs.Collapse.{mapOf}
-use Rattle.laws.specs.Layers.{Layer, Alike, Every, none, more, stack, Pairing, layer, pair, layersOf, imageOf}
+use Rattle.laws.specs.Layers.{Layer, SameGrains, Every, none, more, mapOfLayers, Pairing, layer, pair, layersOf}
+use Rattle.laws.specs.Layers.{pairedImage}
 use Rattle.laws.proofs.CollapsedMaps.{nothing-onto, merge-assoc, merge-nothing, layout-same}
 use Rattle.laws.proofs.CollapsedImages.{collapsed-is, collapsed-accepted, collapsed-map}
 
@@ -25,10 +26,10 @@ module _ {P : List ℕ → Type 0} where
   back (s ∷ l) k (more p e) = back l k e
 
 -- ---- layers put together
-stack-append : (l k : List (List ℕ)) → stack (l ++ k) ≡ merge (stack l) (stack k)
-unfolding stack
-stack-append [] k = sym (merge-nothing (stack k))
-stack-append (s ∷ l) k = ap (merge (mapOf s)) (stack-append l k) ∙ sym (merge-assoc (mapOf s) (stack l) (stack k))
+stack-append : (l k : List (List ℕ)) → mapOfLayers (l ++ k) ≡ merge (mapOfLayers l) (mapOfLayers k)
+unfolding mapOfLayers
+stack-append [] k = sym (merge-nothing (mapOfLayers k))
+stack-append (s ∷ l) k = ap (merge (mapOf s)) (stack-append l k) ∙ sym (merge-assoc (mapOf s) (mapOfLayers l) (mapOfLayers k))
 
 pub some-layer : (t : Pairing) → 1 ≤ length (layersOf t)
 unfolding layersOf
@@ -37,15 +38,16 @@ some-layer (pair a b) = rw length-append (omega (arith, some-layer a))
 
 module _ {c size : ℕ} where
   -- the image of a pairing may be collapsed with others of its sizes
-  pub pairing-accepted : (t : Pairing) → Every (Layer c size) (layersOf t) → Layer c size (imageOf t)
-  unfolding layersOf imageOf
+  pub pairing-accepted : (t : Pairing) → Every (Layer c size) (layersOf t) → Layer c size (pairedImage t)
+  unfolding layersOf pairedImage
   pairing-accepted (layer s) e = only e
   pairing-accepted (pair a b) e =
       collapsed-accepted (pairing-accepted a (front (layersOf a) _ e)) (pairing-accepted b (back (layersOf a) _ e))
 
   -- its map is that of the layers
-  pub pairing-map : (t : Pairing) → Every (Layer c size) (layersOf t) → Alike c size (mapOf (imageOf t)) (stack (layersOf t))
-  unfolding layersOf imageOf stack
+  pub pairing-map : (t : Pairing) → Every (Layer c size) (layersOf t)
+      → SameGrains c size (mapOf (pairedImage t)) (mapOfLayers (layersOf t))
+  unfolding layersOf pairedImage mapOfLayers
   pairing-map (layer s) e g h = sym (nothing-onto (mapOf s g))
   pairing-map (pair a b) e g h =
       let p = front (layersOf a) _ e in
@@ -55,8 +57,8 @@ module _ {c size : ℕ} where
 
   -- from two layers on it is the layout of that map
   pub pairing-is : (a b : Pairing) → Every (Layer c size) (layersOf (pair a b))
-      → imageOf (pair a b) ≡ layoutOf c size (stack (layersOf (pair a b)))
-  unfolding layersOf imageOf
+      → pairedImage (pair a b) ≡ layoutOf c size (mapOfLayers (layersOf (pair a b)))
+  unfolding layersOf pairedImage
   pairing-is a b e =
       let p = front (layersOf a) _ e in
       let q = back (layersOf a) _ e in
@@ -64,12 +66,13 @@ module _ {c size : ℕ} where
       ∙ layout-same c size _ _ (λ g h. rw (pairing-map a p g h, pairing-map b q g h, stack-append (layersOf a) (layersOf b)))
 
   -- so the pairing makes no difference to the bytes
-  pub pairings-alike : (t u : Pairing) → Every (Layer c size) (layersOf t) → layersOf t ≡ layersOf u → imageOf t ≡ imageOf u
-  unfolding layersOf imageOf
+  pub pairings-alike : (t u : Pairing) → Every (Layer c size) (layersOf t) → layersOf t ≡ layersOf u → pairedImage t
+      ≡ pairedImage u
+  unfolding layersOf pairedImage
   pairings-alike (layer s) (layer r) w e = ap (λ (l : List (List ℕ)). getD l 0 []) e
   pairings-alike (layer s) (pair a b) w e =
       absurd (omega (arith, rw length-append at (ap length e), some-layer a, some-layer b))
   pairings-alike (pair a b) (layer s) w e =
       absurd (omega (arith, rw length-append at (ap length e), some-layer a, some-layer b))
   pairings-alike (pair a b) (pair d f) w e =
-      pairing-is a b w ∙ ap (λ (l : List (List ℕ)). layoutOf c size (stack l)) e ∙ sym (pairing-is d f (rw e at w))
+      pairing-is a b w ∙ ap (λ (l : List (List ℕ)). layoutOf c size (mapOfLayers l)) e ∙ sym (pairing-is d f (rw e at w))

@@ -12,8 +12,8 @@ use Rattle.format.specs.Geometry.{fileSectors, bytesAt}
 use Rattle.format.specs.Header.{headerOf}
 use Rattle.format.specs.Entries.{grainSectors}
 use Rattle.format.specs.Areas.{named, runsPast}
-use Rattle.format.specs.Source.{grainSource, entrySource, sourceOf, lookup}
-use Rattle.format.specs.Grains.{Grain, absent, zeroed, stored, onto, clip, grainFrom}
+use Rattle.format.specs.Source.{grainSource, entrySource, sourceOf, sectorLookup}
+use Rattle.format.specs.Grains.{Grain, absent, zeroed, stored, upperUnlessAbsent, clip, grainFrom}
 use Rattle.format.specs.Collapse.{mapOf}
 use Rattle.format.specs.declared.Entry.{Entry}
 use Rattle.format.specs.declared.Entry.the-variants.{Absent as noEntry, Zero as zeroEntry, Sector}
@@ -26,7 +26,7 @@ use Rattle.laws.specs.Layers.{Layer}
 use Rattle.laws.specs.Served.{SameSource, absent as sameAbsent, zero as sameZero, stored as sameStored}
 use Rattle.laws.proofs.ServedLookup.{grain-in}
 use Rattle.laws.proofs.ServedSectors.{accepted-good, served}
-use Rattle.laws.proofs.LayoutGrains.{clip-length, clip-below}
+use Rattle.format.proofs.Grains.{clip-length, clip-below}
 use Rattle.laws.proofs.LayoutNumbers.{some-size}
 use Rattle.laws.proofs.CollapsedLayers.{layer-accepted, capacity-is, size-is, unpacked, layer-sizes}
 
@@ -36,8 +36,8 @@ sectorIn o absent = absent
 sectorIn o zeroed = zeroed
 sectorIn o (stored b) = stored (bytesAt b (512 * o) 512)
 
-pub sector-onto : (o : ℕ) (a b : Grain) → sectorIn o (onto a b) ≡ onto (sectorIn o a) (sectorIn o b)
-unfolding sectorIn onto
+pub sector-onto : (o : ℕ) (a b : Grain) → sectorIn o (upperUnlessAbsent a b) ≡ upperUnlessAbsent (sectorIn o a) (sectorIn o b)
+unfolding sectorIn upperUnlessAbsent
 sector-onto o a absent = refl
 sector-onto o a zeroed = refl
 sector-onto o a (stored b) = refl
@@ -86,7 +86,7 @@ module _ (s : List ℕ) (c size g o : ℕ) (low : o < size) (below : g * size + 
 -- ---- the lookup finds what the map says
 pub record Looked (s : List ℕ) (x : ℕ) (g : Grain) : Type 0 where
   pub source : Source
-  pub found : lookup s x ≡ Found source
+  pub found : sectorLookup s x ≡ Found source
   pub tells : Tells s source g
 
 pub looked : {c size : ℕ} {s : List ℕ} → Layer c size s → (x : ℕ) → x < c
@@ -95,7 +95,7 @@ looked {c} {size} {s} p x low =
     let a = layer-accepted p in
     let good = accepted-good s a in
     let one = some-size (layer-sizes p) in
-    let inside = grain-in s (headerOf s) (good .size) (good .per) (good .areas) x (rw (capacity-is p) low) in
+    let inside = grain-in s (headerOf s) (good .room .low) (good .room .some) (good .areas) x (rw (capacity-is p) low) in
     record {
       source = sourceOf s (headerOf s) x;
       found = served s a x (rw (capacity-is p) low);

@@ -11,20 +11,23 @@ use Rattle.base.specs.Rows.{rows}
 use Rattle.format.specs.Geometry.{grains, directoryEntries, directorySectors}
 use Rattle.format.specs.Kdmv.{kdmvFields, kdmvFault, footerBroken}
 use Rattle.format.specs.Cowd.{cowdFields, cowdFault}
-use Rattle.format.specs.Header.{kdmvHeader, cowdHeader, directoryOf, headerOf, grainsOf, entriesOf, unlessFault, withFooter, judgeKdmv, judgeCowd, judge}
-use Rattle.format.specs.Entries.{meaning, inTable, entryOf, grainSectors, markerBroken, some}
+use Rattle.format.specs.Header.{kdmvHeader, cowdHeader, directoryOf, headerOf, grainsOf, directoryEntriesOf, unlessFault}
+use Rattle.format.specs.Header.{withFooter, judgeKdmv, judgeCowd, judge}
+use Rattle.format.specs.Entries.{meaning, inTable, entryOfGrain, grainSectors, markerBroken, anyBelow}
 use Rattle.format.specs.Areas.{ifThere, named, redundantTables, areas, runsPast, shares, sharesAny, meet}
-use Rattle.format.specs.Check.{misplaced, lowestFrom, markerAt, copyDiffers, copiesDiffer, unlessGrain, checkApart, checkCopies, checkGrains, checkLayout, checkFrom, check}
-use Rattle.format.specs.Source.{grainSource, lookupGrain, lookupEntry, lookupTable, lookupIn, lookupFrom, lookup}
-use Rattle.format.specs.Grains.{grainFrom, count, storedBelow}
-use Rattle.format.specs.Layout.{tables, tablesAt, tablesEnd, grainsAt, layoutLength}
-use Rattle.format.specs.Collapse.{unlessUnaccepted, fitted, normalFrom, normal}
+use Rattle.format.specs.Check.{misplaced, lowestFrom, markerBrokenAt, copyDiffers, copiesDiffer, unlessGrain, checkApart}
+use Rattle.format.specs.Check.{checkCopies, checkGrains, checkLayout, checkFrom, check}
+use Rattle.format.specs.Source.{grainSource, lookupGrain, lookupEntry, lookupTable, lookupIn, lookupFrom, sectorLookup}
+use Rattle.format.specs.Grains.{grainFrom, oneIfStored, storedBelow}
+use Rattle.format.specs.Layout.{tableCount, tablesAt, tablesEnd, sectorV, layoutLength}
+use Rattle.format.specs.Collapse.{ifAccepted, writtenIfRoom, normalFrom, normal}
 use Rattle.format.specs.Answers.{verdict, located, written}
 use Rattle.format.specs.declared.Header.{Header}
 use Rattle.format.specs.declared.CheckAnswer.{CheckAnswer}
 use Rattle.format.specs.declared.LookupAnswer.{LookupAnswer}
 use Rattle.format.specs.declared.CollapseAnswer.{CollapseAnswer}
 use Rattle.format.proofs.Images.{kdmvSector, cowdSectors, sample, small}
+use Rattle.laws.specs.Layers.{Every, none, more}
 
 -- an example: the numbers that the definitions give, and those of document 01
 pub record Example : Type 0 where
@@ -34,14 +37,10 @@ pub record Example : Type 0 where
 abbrev example : List ℕ → List ℕ → Example
 example gives wants = record { gives = gives; wants = wants }
 
-pub data Every {A : Type 0} (P : A → Type 0) : List A → Type 0 where
-  none : Every P []
-  more : {a : A} {l : List A} → P a → Every P l → Every P (a ∷ l)
-
 -- ---- answers as numbers
 -- grains and n
 abbrev counted : Header → List ℕ
-counted h = grainsOf h ∷ entriesOf h ∷ []
+counted h = grainsOf h ∷ directoryEntriesOf h ∷ []
 
 -- number and place, then capacity and grain size
 abbrev checked : CheckAnswer → List ℕ
@@ -62,12 +61,12 @@ examples =
     example (counted (headerOf (kdmvSector 200 128 1))) (2 ∷ 1 ∷ [])
     ∷ example (counted (headerOf (kdmvSector 8323072 128 1))) (65024 ∷ 127 ∷ [])
     -- 000's sample: sector 2 is file sector 130, sector 128 absent, sector 256 file sector 256; sector 8,192 refused 20
-    ∷ example (looked (lookup sample 2)) (0 ∷ 0 ∷ 2 ∷ 130 ∷ [])
-    ∷ example (looked (lookup sample 128)) (0 ∷ 0 ∷ 0 ∷ 0 ∷ [])
-    ∷ example (looked (lookup sample 256)) (0 ∷ 0 ∷ 2 ∷ 256 ∷ [])
-    ∷ example (looked (lookup sample 8192)) (20 ∷ 0 ∷ 0 ∷ 0 ∷ [])
+    ∷ example (looked (sectorLookup sample 2)) (0 ∷ 0 ∷ 2 ∷ 130 ∷ [])
+    ∷ example (looked (sectorLookup sample 128)) (0 ∷ 0 ∷ 0 ∷ 0 ∷ [])
+    ∷ example (looked (sectorLookup sample 256)) (0 ∷ 0 ∷ 2 ∷ 256 ∷ [])
+    ∷ example (looked (sectorLookup sample 8192)) (20 ∷ 0 ∷ 0 ∷ 0 ∷ [])
     -- capacity 16, grain 8, one stored grain: V 8, result 8,192 bytes; output of 8,191 refused 21
-    ∷ example (grainsAt 16 8 ∷ []) (8 ∷ [])
+    ∷ example (sectorV 16 8 ∷ []) (8 ∷ [])
     ∷ example (wrote (normal (small 8 0 0 10) 8192)) (0 ∷ 0 ∷ 8192 ∷ [])
     ∷ example (wrote (normal (small 8 0 0 10) 8191)) (21 ∷ 0 ∷ 0 ∷ [])
     -- COWD capacity 4,097, grain 1: n 2
@@ -78,6 +77,7 @@ examples =
     ∷ []
 
 pub all-right : Every (λ (e : Example). e .gives ≡ e .wants) examples
-unfolding pick powerUpTo leAt leBytes sameAt zeros rows grains directoryEntries directorySectors kdmvFields kdmvFault footerBroken cowdFields cowdFault kdmvHeader cowdHeader directoryOf headerOf unlessFault withFooter judgeKdmv judgeCowd judge meaning inTable entryOf grainSectors markerBroken some ifThere named redundantTables areas runsPast shares sharesAny meet misplaced lowestFrom markerAt copyDiffers copiesDiffer unlessGrain checkApart checkCopies checkGrains checkLayout checkFrom grainSource lookupGrain lookupEntry lookupTable lookupIn lookupFrom grainFrom count storedBelow tables tablesAt tablesEnd grainsAt layoutLength unlessUnaccepted fitted normalFrom
+unfolding pick powerUpTo leAt leBytes sameAt zeros rows grains directoryEntries directorySectors kdmvFields kdmvFault footerBroken cowdFields cowdFault kdmvHeader cowdHeader directoryOf headerOf unlessFault withFooter judgeKdmv judgeCowd judge meaning inTable entryOfGrain grainSectors markerBroken anyBelow ifThere named redundantTables areas runsPast shares sharesAny meet misplaced lowestFrom markerBrokenAt copyDiffers copiesDiffer unlessGrain checkApart checkCopies checkGrains checkLayout checkFrom grainSource lookupGrain lookupEntry lookupTable lookupIn lookupFrom grainFrom oneIfStored storedBelow tableCount tablesAt tablesEnd sectorV layoutLength ifAccepted writtenIfRoom normalFrom
 all-right =
-    more refl (more refl (more refl (more refl (more refl (more refl (more refl (more refl (more refl (more refl (more refl (more refl none)))))))))))
+    more refl (more refl (more refl (more refl (more refl
+    (more refl (more refl (more refl (more refl (more refl (more refl (more refl none)))))))))))

@@ -61,9 +61,6 @@ module _ (s : List ℕ) (list : List Extent) (ok : descriptorAnswer s list .numb
   told : Told st
   told = told-of st (taken .told)
 
-  count-is : parsed s .count ≡ st .extents
-  count-is = ap (λ (p : Parsed). p .count) (told .same)
-
   known : Known st
   known = text-read s .known
 

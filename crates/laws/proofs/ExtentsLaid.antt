@@ -7,7 +7,7 @@ use mathlib.Core.Logic.{⊎-elim}
 use native.Mathlib.Omega.{arith}
 use native.Mathlib.Nat.{not-suc-le-zero, le-of-suc-le-suc}
 use lib.ListN.{length, getD, take}
-use borrow.Author.Tests.{leb-true, ltb-true, le-leb, lt-leb, lt-ltb, le-ltb}
+use borrow.Author.Tests.{leb-true, ltb-true, le-leb, lt-ltb, le-ltb}
 use Rattle.base.specs.Pick.{pick}
 use Rattle.base.proofs.Steps.{and-yes, lt-or-ge}
 use Rattle.descriptor.specs.declared.Extent.{Extent}
@@ -60,9 +60,6 @@ laid-up from to es p = omega (arith, laid-sum from to es p)
 module _ (e : Extent) (sector : ℕ) where
   is-held : e .first ≤ sector → sector < e .first + e .sectors → holding e sector ≡ true
   is-held h k = rw (le-leb _ _ h, lt-ltb _ _ k)
-
-  held-before : sector < e .first → holding e sector ≡ false
-  held-before h = rw (lt-leb _ _ h)
 
   held-after : e .first ≤ sector → e .first + e .sectors ≤ sector → holding e sector ≡ false
   held-after h k = rw (le-leb _ _ h, le-ltb _ _ k)

@@ -19,7 +19,7 @@ use Rattle.descriptor.specs.Text.{Span, lines, textOf, endOf, bytesOf}
 use Rattle.descriptor.specs.Words.{trim}
 use Rattle.descriptor.specs.Line.{line}
 use Rattle.descriptor.specs.Descriptor.{noExtent, start, refused, skipped, opened, added, noted, once, taken, judgedLine, step}
-use Rattle.descriptor.specs.Descriptor.{extentsBad, missing, complete, ended, judged, judgedText, readText}
+use Rattle.descriptor.specs.Descriptor.{extentsBad, missing, judgedEnd, ended, judged, judgedText, readText}
 use Rattle.laws.proofs.ExtentsLaid.{Laid, laid-more}
 use Rattle.laws.proofs.ExtentsLines.{Starts, extent-at, line-starts}
 
@@ -104,7 +104,7 @@ unfolding refused
 refused-read number place st h k = record { known = refused-known st k number place; good = λ e. absurd (omega arith) }
 
 ended-read : (st : State) → Known st → Read (ended st)
-unfolding ended complete
+unfolding ended judgedEnd
 ended-read st k =
     cond-all Read _ _ _
     (λ e. cond-all Read (missing (st .values)) _ _ (λ e. refused-read 33 0 st (lit< tt) k)

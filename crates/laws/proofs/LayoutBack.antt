@@ -14,15 +14,17 @@ use Rattle.base.proofs.Stands.{Stands, stands-in, stands-at}
 use Rattle.base.proofs.Numbers.{read-number}
 use Rattle.base.proofs.Rows.{rows-at, entry-at}
 use Rattle.format.specs.Geometry.{grains}
-use Rattle.format.specs.Entries.{entryAt, meaning, inTable, entryOf, grainEntry}
+use Rattle.format.specs.Entries.{entryAt, meaning, inTable, entryOfGrain, grainEntry}
 use Rattle.format.specs.Grains.{Grain, absent, zeroed, stored, Map, grainFrom, bytesOf, entryFor, Whole}
-use Rattle.format.specs.Layout.{Fits, tables, tablesAt, sectorOf, directoryEntry, tableEntry, directory, tableBytes, grainBytes, layoutOf}
+use Rattle.format.specs.Layout.{Fits, tableCount, tablesAt, sectorOf, directoryEntry, tableEntry, directoryBytes, tableBytes}
+use Rattle.format.specs.Layout.{grainBytes, layoutOf}
 use Rattle.format.specs.Collapse.{mapOf}
 use Rattle.format.specs.declared.Entry.{Entry}
 use Rattle.format.specs.declared.Entry.the-variants.{Absent, Zero, Sector}
 use Rattle.format.proofs.Picked.{pick-then}
-use Rattle.laws.proofs.LayoutGrains.{clip-same, clip-length, entry-small, stored-length}
-use Rattle.laws.proofs.LayoutNumbers.{Sizes, table-of, entry-below, directory-below, tables-late, sector-late, table-small, sector-small}
+use Rattle.format.proofs.Grains.{clip-same, clip-length, whole-length, entry-small, stored-length}
+use Rattle.laws.proofs.LayoutNumbers.{Sizes, table-of, entry-below, directory-below, tables-late, sector-late}
+use Rattle.laws.proofs.LayoutNumbers.{table-small, sector-small}
 use Rattle.laws.proofs.LayoutParts.{directory-stands, tables-stand, grains-stand}
 use Rattle.laws.proofs.LayoutHeader.{laidHeader, header-laid}
 
@@ -45,8 +47,8 @@ entry-told (stored b) v h = rw (ne-eqb v 0 (omega arith), ne-eqb v 1 (omega arit
 
 -- tables of k sectors, one after the other from `first` on, are one run of entries: for any number of entries per table
 module _ (s : List ℕ) (at first k n : ℕ) (late : 2 ≤ first) (named : (d : ℕ) → d < n → entryAt s at d ≡ first + k * d) where
-  flat-entry : (g : ℕ) → g / (128 * k) < n → entryOf s true (128 * k) at g ≡ meaning true (leAt s (512 * first + 4 * g) 4)
-  unfolding entryOf inTable
+  flat-entry : (g : ℕ) → g / (128 * k) < n → entryOfGrain s true (128 * k) at g ≡ meaning true (leAt s (512 * first + 4 * g) 4)
+  unfolding entryOfGrain inTable
   flat-entry g h =
       let q = g / (128 * k) in
       rw (named q h, sector-told (first + k * q) (omega arith))
@@ -63,10 +65,10 @@ grain-told s c size g v (stored b) w h =
 
 -- ---- a layout
 module _ {c size : ℕ} (z : Sizes c size) (m : Map) where
-  pub table-read : (d : ℕ) → d < tables c size → entryAt (layoutOf c size m) 1 d ≡ tablesAt c size + 4 * d
-  unfolding directory
+  pub table-read : (d : ℕ) → d < tableCount c size → entryAt (layoutOf c size m) 1 d ≡ tablesAt c size + 4 * d
+  unfolding directoryBytes
   table-read d h =
-      let e : directoryEntry c size d ≡ tablesAt c size + 4 * d = pick-then _ _ _ (lt-ltb d (tables c size) h) in
+      let e : directoryEntry c size d ≡ tablesAt c size + 4 * d = pick-then _ _ _ (lt-ltb d (tableCount c size) h) in
       read-number 4 _
       (stands-at _ (omega arith)
       (stands-in (directory-stands z m) (rw e at (entry-at _ (directoryEntry c size) d (directory-below z d h)))))
@@ -77,7 +79,7 @@ module _ {c size : ℕ} (z : Sizes c size) (m : Map) where
   unfolding tableBytes
   entry-read g h =
       let e : tableEntry c size m g ≡ entryFor (m g) (sectorOf c size m g) = pick-then _ _ _ (lt-ltb g (grains c size) h) in
-      flat-entry (layoutOf c size m) 1 (tablesAt c size) 4 (tables c size) (tables-late z) table-read g (table-of z g h)
+      flat-entry (layoutOf c size m) 1 (tablesAt c size) 4 (tableCount c size) (tables-late z) table-read g (table-of z g h)
       ∙ ap (meaning true)
       (read-number 4 _
       (stands-at _ (omega arith)
@@ -89,7 +91,8 @@ module _ {c size : ℕ} (z : Sizes c size) (m : Map) where
     grain-stands : (g : ℕ) → g < grains c size → Stands (layoutOf c size m) (512 * sectorOf c size m g) (bytesOf (m g))
     unfolding grainBytes sectorOf
     grain-stands g h =
-        stands-at _ (rw (stored-length c size m g (λ k b. f k (omega arith)), mul-left-comm) (omega arith))
+        let long = stored-length size m g (λ k b. whole-length c size k (m k) (f k (omega arith))) in
+        stands-at _ (rw (long, mul-left-comm) (omega arith))
         (stands-in (grains-stand z m) (rows-at (grains c size) (λ k. bytesOf (m k)) g h))
 
     -- the map of a layout is the one that it was written from

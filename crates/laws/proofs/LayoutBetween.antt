@@ -13,7 +13,7 @@ use Rattle.format.proofs.Inside.{in-one, none-in}
 -- from sector a on, and up to b
 unfoldable pub Between : ℕ → List Area → ℕ → Type 0
 Between a [] b = a ≤ b
-Between a (y ∷ l) b = (a ≤ y .first) × Between (y .first + y .count) l b
+Between a (y ∷ l) b = (a ≤ y .first) × Between (y .first + y .sectorCount) l b
 
 -- ---- rows put together
 -- it may begin sooner and end later

@@ -1,5 +1,5 @@
 -- The header of a layout reads back as written, and keeps every header rule.
-use Prim.Native.Nat.{ℕ, _≤_, _<_}
+use Prim.Native.Nat.{ℕ, _<_}
 use mathlib.Core.Path.{_≡_, refl, _∙_}
 use mathlib.Core.Bool.{true, false, false≢true}
 use mathlib.Core.List.{List, []}
@@ -21,12 +21,13 @@ use Rattle.format.specs.Kdmv.{newlineBytes, kdmvFields}
 use Rattle.format.specs.Header.{kdmvHeader, directoryOf, kdmvHeaderOf, headerOf}
 use Rattle.format.specs.Accepted.{KdmvRules}
 use Rattle.format.specs.Grains.{Map}
-use Rattle.format.specs.Layout.{tables, headerParts, header, layoutOf}
+use Rattle.format.specs.Layout.{tableCount, headerParts, headerBytes, layoutOf}
 use Rattle.format.specs.declared.KdmvFields.{KdmvFields}
 use Rattle.format.specs.declared.Header.{Header}
 use Rattle.format.proofs.HeaderJudged.{kdmv-is}
 use Rattle.laws.proofs.LayoutNumbers.{Sizes}
-use Rattle.laws.proofs.LayoutParts.{header-stands, header-length}
+use Rattle.format.proofs.Lengths.{header-length}
+use Rattle.laws.proofs.LayoutParts.{header-stands}
 
 -- ---- what is written
 abbrev laidFields : ℕ → ℕ → KdmvFields
@@ -56,7 +57,7 @@ laidHeader c size =
       descriptor = 0;
       «descriptor_sectors» = 0;
       directory = 1;
-      «directory_sectors» = directorySectors (tables c size);
+      «directory_sectors» = directorySectors (tableCount c size);
       redundant = 0;
       «entries_per_table» = 512;
       «table_sectors» = 4;
@@ -67,9 +68,9 @@ laidHeader c size =
 
 module _ {c size : ℕ} (z : Sizes c size) where
   -- ---- an image that begins with the header
-  module _ (s : List ℕ) (h : Stands s 0 (header c size)) where
+  module _ (s : List ℕ) (h : Stands s 0 (headerBytes c size)) where
     field : (i : ℕ) → i < 15 → Stands s (length (firstOf (headerParts c size) i)) (getD (headerParts c size) i [])
-    unfolding header
+    unfolding headerBytes
     field i b = rw zero-add at (stands-in h (part-at (headerParts c size) i b))
 
     fields-read : kdmvFields s ≡ laidFields c size
@@ -114,7 +115,7 @@ module _ {c size : ℕ} (z : Sizes c size) where
     layout-rules = rw fields (rules-kept (layoutOf c size m) (header-stands z m))
 
     pub kdmv-laid : kdmvHeaderOf (layoutOf c size m) ≡ laidHeader c size
-    unfolding kdmvHeader directoryOf pick tables
+    unfolding kdmvHeader directoryOf pick tableCount
     kdmv-laid = rw fields
 
     pub header-laid : headerOf (layoutOf c size m) ≡ laidHeader c size

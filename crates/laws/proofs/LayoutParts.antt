@@ -1,44 +1,26 @@
--- The parts of a layout: how long each is, and where it stands.
-use Prim.Native.Nat.{ℕ, _-_, _*_}
-use mathlib.Core.Path.{_≡_, refl, _∙_}
+-- The parts of a layout: where each stands, and how long all are.
+use Prim.Native.Nat.{ℕ, _*_}
+use mathlib.Core.Path.{_≡_, _∙_}
 use native.Mathlib.Omega.{arith}
 use native.Mathlib.Nat.{mul-left-comm}
 use lib.ListN.{length, length-append}
-use Rattle.base.specs.Numbers.{leBytes}
-use Rattle.base.specs.Bytes.{zeros}
 use Rattle.base.specs.Rows.{rows, firstOf}
 use Rattle.base.proofs.Stands.{Stands, stands-at}
-use Rattle.base.proofs.Over.{zeros-length}
-use Rattle.base.proofs.Rows.{part-at, entries-length}
-use Rattle.format.specs.Geometry.{grains, directorySectors}
+use Rattle.base.proofs.Rows.{part-at}
+use Rattle.format.specs.Geometry.{grains}
 use Rattle.format.specs.Grains.{Map}
-use Rattle.format.specs.Layout.{Fits, tables, tablesAt, tablesEnd, grainsAt, header, directory, tableBytes, gap, grainBytes, layoutParts, layoutOf, layoutLength}
-use Rattle.laws.proofs.LayoutGrains.{stored-length}
-use Rattle.laws.proofs.LayoutNumbers.{Sizes, grains-late}
-
-pub header-length : (c size : ℕ) → length (header c size) ≡ 512
-unfolding header rows leBytes zeros
-header-length c size = refl
-
-module _ (c size : ℕ) where
-  directory-length : length (directory c size) ≡ 512 * directorySectors (tables c size)
-  unfolding directory
-  directory-length = entries-length _ _ ∙ omega arith
-
-  tables-length : (m : Map) → length (tableBytes c size m) ≡ 2048 * tables c size
-  unfolding tableBytes
-  tables-length m = entries-length _ _ ∙ omega arith
-
-  gap-length : length (gap c size) ≡ 512 * (grainsAt c size - tablesEnd c size)
-  unfolding gap
-  gap-length = zeros-length _
+use Rattle.format.specs.Layout.{Fits, tablesAt, tablesEnd, sectorV, headerBytes, directoryBytes, tableBytes, grainBytes}
+use Rattle.format.specs.Layout.{layoutParts, layoutOf, layoutLength}
+use Rattle.format.proofs.Grains.{whole-length, stored-length}
+use Rattle.format.proofs.Lengths.{header-length, directory-length, tables-length, gap-length, grains-late}
+use Rattle.laws.proofs.LayoutNumbers.{Sizes, some-size}
 
 module _ {c size : ℕ} (z : Sizes c size) (m : Map) where
-  pub header-stands : Stands (layoutOf c size m) 0 (header c size)
+  pub header-stands : Stands (layoutOf c size m) 0 (headerBytes c size)
   unfolding layoutOf rows
   header-stands = part-at (layoutParts c size m) 0 (omega arith)
 
-  pub directory-stands : Stands (layoutOf c size m) 512 (directory c size)
+  pub directory-stands : Stands (layoutOf c size m) 512 (directoryBytes c size)
   unfolding layoutOf rows
   directory-stands = stands-at 512 (header-length c size) (part-at (layoutParts c size m) 1 (omega arith))
 
@@ -48,12 +30,13 @@ module _ {c size : ℕ} (z : Sizes c size) (m : Map) where
       stands-at _ (simp (length-append, header-length, directory-length) (omega arith))
       (part-at (layoutParts c size m) 2 (omega arith))
 
-  before-grains : length (firstOf (layoutParts c size m) 4) ≡ 512 * grainsAt c size
+  before-grains : length (firstOf (layoutParts c size m) 4) ≡ 512 * sectorV c size
   unfolding rows tablesEnd tablesAt
   before-grains =
-      simp (length-append, header-length, directory-length, tables-length, gap-length) (omega (arith, grains-late z))
+      simp (length-append, header-length, directory-length, tables-length, gap-length)
+      (omega (arith, grains-late c size (some-size z)))
 
-  pub grains-stand : Stands (layoutOf c size m) (512 * grainsAt c size) (grainBytes c size m)
+  pub grains-stand : Stands (layoutOf c size m) (512 * sectorV c size) (grainBytes c size m)
   unfolding layoutOf
   grains-stand = stands-at _ before-grains (part-at (layoutParts c size m) 4 (omega arith))
 
@@ -61,5 +44,6 @@ module _ {c size : ℕ} (z : Sizes c size) (m : Map) where
   pub layout-length : Fits c size m → length (layoutOf c size m) ≡ layoutLength c size m
   unfolding layoutOf layoutLength rows grainBytes
   layout-length f =
+      let long = stored-length size m (grains c size) (λ g b. whole-length c size g (m g) (f g b)) in
       length-append (firstOf (layoutParts c size m) 4) (grainBytes c size m)
-      ∙ rw (before-grains, stored-length c size m (grains c size) f, mul-left-comm) (omega arith)
+      ∙ rw (before-grains, long, mul-left-comm) (omega arith)

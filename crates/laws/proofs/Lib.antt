@@ -8,7 +8,6 @@ pub mod ServedLookup
 pub mod ServedBytes
 pub mod ServedSectors
 pub mod ServedChain
-pub mod LayoutGrains
 pub mod LayoutNumbers
 pub mod LayoutParts
 pub mod LayoutHeader
@@ -29,3 +28,4 @@ pub mod ExtentsRead
 pub mod Extents
 pub mod NeverUsed
 pub mod NeverUsedCheck
+pub mod NotConstant

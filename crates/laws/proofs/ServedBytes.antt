@@ -42,7 +42,8 @@ module _ (s : List ℕ) (size o : ℕ) (low : o < size) where
   entry-long packed zeroEntry p = refl
   entry-long packed (Sector e) p = grain-long packed e (named-in (fileSectors s) (grainSectors s packed size) e p)
 
-module _ (s : List ℕ) (h : Header) (one : 1 ≤ h .«grain_size») (per : 1 ≤ h .«entries_per_table») (r : AreaRules s h) (x : ℕ) (low : x < h .capacity) where
+module _ (s : List ℕ) (h : Header) (one : 1 ≤ h .«grain_size») (per : 1 ≤ h .«entries_per_table») (r : AreaRules s h) (x : ℕ)
+    (low : x < h .capacity) where
   -- so the part that is read is as long as the source says
   pub source-long : length (sourceBytes s (sourceOf s h x)) ≡ sourceLength (sourceOf s h x)
   source-long = entry-long s (h .«grain_size») _ (mod-lt x one) (h .packed) _ (grain-in s h one per r x low)

@@ -12,9 +12,10 @@ use borrow.Author.Tests.{leb-true, eq-eqb}
 use Rattle.base.specs.Pick.{pick}
 use Rattle.base.proofs.Steps.{true-or-false}
 use Rattle.format.specs.Header.{headerOf, judge}
-use Rattle.format.specs.Entries.{some}
-use Rattle.format.specs.Source.{lookupIn, lookupFrom, lookup}
-use Rattle.format.specs.Chain.{sum, layerAt, lengthsBroken, unlessUnknown, headersDown, unlike, layersDiffer, unlessAbsent, walkDown, walk, chain}
+use Rattle.format.specs.Entries.{anyBelow}
+use Rattle.format.specs.Source.{lookupIn, lookupFrom, sectorLookup}
+use Rattle.format.specs.Chain.{lengthsSum, layerAt, lengthsBroken, ifKnown, headersDown, layersDiffer, unlessAbsent, walkDown}
+use Rattle.format.specs.Chain.{walk, chainLookup}
 use Rattle.format.specs.Answers.{located, chained}
 use Rattle.format.specs.declared.Header.{Header}
 use Rattle.format.specs.declared.Source.the-variants.{Absent, Zero, Stored, Packed}
@@ -27,26 +28,23 @@ use Rattle.format.specs.declared.ChainAnswer.{ChainAnswer}
 use Rattle.format.specs.declared.ChainAnswer.the-variants.{Found, Refused}
 use Rattle.format.proofs.Picked.{pick-then, pick-else}
 use Rattle.format.proofs.HeaderJudged.{judged-header}
+use Rattle.format.proofs.Layers.{like}
 use Rattle.laws.proofs.ServedLookup.{past-in}
 
 -- the one layer is the whole slice
 one-layer : (s : List ℕ) → layerAt s (length s ∷ []) 0 ≡ s
-unfolding sum
+unfolding lengthsSum
 one-layer s = take-length s
 
 -- its length is the slice's
 one-length : (s : List ℕ) → lengthsBroken s (length s ∷ []) ≡ false
-unfolding sum
+unfolding lengthsSum
 one-length s = rw (eq-eqb _ _ (add-zero (length s)))
 
 -- it has its own capacity and grain size
-alike : (h : Header) → unlike h h ≡ false
-unfolding unlike
-alike h = rw (eq-eqb (h .capacity) (h .capacity) refl, eq-eqb (h .«grain_size») (h .«grain_size») refl)
-
 one-alike : (s : List ℕ) → layersDiffer s (length s ∷ []) ≡ false
-unfolding some
-one-alike s = alike _
+unfolding anyBelow
+one-alike s = like _ _ refl refl
 
 -- an answer of the lookup, and the absent one under it
 one-told : (a : LookupAnswer) → chained (unlessAbsent 0 a (Found (record { layer = 0; source = Absent }))) ≡ located a
@@ -58,27 +56,29 @@ one-told (foundIn (Packed marker size o)) = refl
 one-told (refusedIn r) = refl
 
 module _ (s : List ℕ) (x : ℕ) where
-  past-told : (h : Header) → judge s ≡ Known h → (below : ChainAnswer) → below ≡ unlessAbsent 0 (lookup s x) (Found (record { layer = 0; source = Absent }))
+  past-told : (h : Header) → judge s ≡ Known h → (below : ChainAnswer) → below
+      ≡ unlessAbsent 0 (sectorLookup s x) (Found (record { layer = 0; source = Absent }))
       → chained (pick (leb (headerOf s .capacity) x) (Refused 0 SectorPast) below) ≡ located (lookupIn s h x)
   unfolding lookupFrom
   past-told h e below is =
       let q : leb (headerOf s .capacity) x ≡ leb (h .capacity) x = rw (judged-header s h e) in
       ⊎-elim
       (λ t. ap chained (pick-then _ _ _ (q ∙ t)) ∙ sym (ap located (past-in s h x (leb-true _ _ t))))
-      (λ f. ap chained (pick-else _ _ _ (q ∙ f) ∙ is) ∙ one-told (lookup s x) ∙ ap (λ (a : HeaderAnswer). located (lookupFrom s x a)) e)
+      (λ f. ap chained (pick-else _ _ _ (q ∙ f) ∙ is) ∙ one-told (sectorLookup s x)
+      ∙ ap (λ (a : HeaderAnswer). located (lookupFrom s x a)) e)
       (true-or-false (leb (h .capacity) x))
 
   walked : (h : Header) → judge s ≡ Known h → chained (walk s (length s ∷ []) x) ≡ located (lookupFrom s x (Known h))
   unfolding walk walkDown lookupFrom
   walked h e = ap chained (pick-else _ _ _ (one-alike s)) ∙ rw (one-layer s) (past-told h e _ refl)
 
-  one-judged : (a : HeaderAnswer) → judge s ≡ a → chained (unlessUnknown 0 a (walk s (length s ∷ []) x)) ≡ located (lookupFrom s x a)
-  unfolding unlessUnknown lookupFrom
+  one-judged : (a : HeaderAnswer) → judge s ≡ a → chained (ifKnown 0 a (walk s (length s ∷ []) x)) ≡ located (lookupFrom s x a)
+  unfolding ifKnown lookupFrom
   one-judged (unknown r) e = refl
   one-judged (Known h) e = walked h e
 
   -- a chain of one layer is answered as its lookup is, and names layer 0
-  pub chain-of-one : chained (chain s (length s ∷ []) x) ≡ located (lookup s x)
-  unfolding chain headersDown
+  pub chain-of-one : chained (chainLookup s (length s ∷ []) x) ≡ located (sectorLookup s x)
+  unfolding chainLookup headersDown
   chain-of-one =
       ap chained (pick-else _ _ _ (one-length s)) ∙ rw (one-layer s) (one-judged (judge s) refl)

@@ -1,77 +1,59 @@
--- On an accepted image no sector below capacity is refused, and its source is what the entry table says. Demand 2, second sentence.
+-- On an accepted image no sector below capacity is refused, and its source is what the entry table says. Demand 2, second
+-- sentence.
 use Prim.Native.Nat.{ℕ, _≤_, _<_}
 use mathlib.Core.Path.{_≡_, ap, _∙_}
 use mathlib.Core.List.{List}
-use native.Mathlib.Omega.{arith}
-use lib.Dec.{lit≤}
 use lib.ListN.{length}
-use Rattle.format.specs.Kdmv.{kdmvFields}
-use Rattle.format.specs.Cowd.{cowdFields}
-use Rattle.format.specs.Header.{kdmvHeader, cowdHeader, kdmvHeaderOf, cowdHeaderOf, headerOf, judge}
-use Rattle.format.specs.Accepted.{KdmvRules, CowdRules, AreaRules, Accepted}
+use Rattle.format.specs.Header.{headerOf, judge}
+use Rattle.format.specs.Accepted.{AreaRules, Accepted}
 use Rattle.format.specs.Accepted.Accepted.{kdmv, cowd}
-use Rattle.format.specs.Source.{sourceOf, lookupFrom, lookup, sourceBytes, answerBytes, read}
+use Rattle.format.specs.Source.{sourceOf, lookupFrom, sectorLookup, sourceBytes, answerBytes, read}
 use Rattle.format.specs.declared.Header.{Header}
 use Rattle.format.specs.declared.Source.the-variants.{Stored}
 use Rattle.format.specs.declared.Refusal.the-variants.{SectorPast}
 use Rattle.format.specs.declared.HeaderAnswer.the-variants.{Known}
 use Rattle.format.specs.declared.LookupAnswer.the-variants.{Found, Refused}
 use Rattle.format.proofs.HeaderJudged.{kdmv-known, cowd-known, kdmv-is, cowd-is}
+use Rattle.format.proofs.HeaderRoom.{Roomy, judged-roomy}
 use Rattle.laws.proofs.ServedLookup.{past-in, found-in}
 use Rattle.laws.proofs.ServedBytes.{sourceLength, source-long}
 
 -- ---- what an accepted image has, of either kind
 pub record Good (s : List ℕ) (h : Header) : Type 0 where
   pub known : judge s ≡ Known h
-  pub size : 1 ≤ h .«grain_size»
-  pub per : 1 ≤ h .«entries_per_table»
+  pub room : Roomy h
   pub areas : AreaRules s h
 
-kdmv-good : (s : List ℕ) → KdmvRules s (kdmvFields s) → AreaRules s (kdmvHeaderOf s) → Good s (kdmvHeaderOf s)
-unfolding kdmvHeader
-kdmv-good s r a = record {
-  known = kdmv-known s r;
-  size = omega (arith, r .grainSize .low);
-  per = lit≤ tt;
-  areas = a;
-}
-
-cowd-good : (s : List ℕ) → CowdRules s (cowdFields s) → AreaRules s (cowdHeaderOf s) → Good s (cowdHeaderOf s)
-unfolding cowdHeader
-cowd-good s r a = record {
-  known = cowd-known s r;
-  size = omega (arith, r .grainSize .low);
-  per = lit≤ tt;
-  areas = a;
-}
+good-of : (s : List ℕ) (h : Header) → judge s ≡ Known h → AreaRules s h → Good s h
+good-of s h e a = record { known = e; room = judged-roomy s h e; areas = a }
 
 pub accepted-good : (s : List ℕ) → Accepted s → Good s (headerOf s)
-accepted-good s (kdmv r a) = rw (kdmv-is s r) (kdmv-good s r a)
-accepted-good s (cowd r a) = rw (cowd-is s r) (cowd-good s r a)
+accepted-good s (kdmv r a) = rw (kdmv-is s r) (good-of s _ (kdmv-known s r) a)
+accepted-good s (cowd r a) = rw (cowd-is s r) (good-of s _ (cowd-known s r) a)
 
 -- a sector at or past the end is refused 20
-pub past-end : (s : List ℕ) → Accepted s → (x : ℕ) → headerOf s .capacity ≤ x → lookup s x ≡ Refused SectorPast
+pub past-end : (s : List ℕ) → Accepted s → (x : ℕ) → headerOf s .capacity ≤ x → sectorLookup s x ≡ Refused SectorPast
 unfolding lookupFrom
 past-end s a x l = rw (accepted-good s a .known) (past-in s (headerOf s) x l)
 
 module _ (s : List ℕ) (a : Accepted s) (x : ℕ) (low : x < headerOf s .capacity) where
   -- no sector below capacity is refused, and the lookup finds the source that its entry gives
-  pub served : lookup s x ≡ Found (sourceOf s (headerOf s) x)
+  pub served : sectorLookup s x ≡ Found (sourceOf s (headerOf s) x)
   unfolding lookupFrom
   served =
       let g = accepted-good s a in
-      rw (g .known) (found-in s (headerOf s) (g .size) (g .per) (g .areas) x low)
+      rw (g .known) (found-in s (headerOf s) (g .room .low) (g .room .some) (g .areas) x low)
 
   -- the grain reader returns the bytes of that answer
   pub served-bytes : read s x ≡ sourceBytes s (sourceOf s (headerOf s) x)
-  unfolding answerBytes
+  unfolding answerBytes sourceBytes
   served-bytes = ap (answerBytes s) served
 
   -- all of them lie in the file
   pub served-long : length (read s x) ≡ sourceLength (sourceOf s (headerOf s) x)
   served-long =
       let g = accepted-good s a in
-      ap length served-bytes ∙ source-long s (headerOf s) (g .size) (g .per) (g .areas) x low
+      ap length served-bytes ∙ source-long s (headerOf s) (g .room .low) (g .room .some) (g .areas) x low
 
   -- 512 for stored
   pub stored-long : (sector : ℕ) → sourceOf s (headerOf s) x ≡ Stored sector → length (read s x) ≡ 512

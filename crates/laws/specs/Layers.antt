@@ -7,25 +7,25 @@ use lib.ListN.{length}
 use Rattle.format.specs.Geometry.{grains}
 use Rattle.format.specs.Header.{headerOf}
 use Rattle.format.specs.Check.{check}
-use Rattle.format.specs.Grains.{Map, merge, nothing}
+use Rattle.format.specs.Grains.{Map, merge, allAbsent}
 use Rattle.format.specs.Collapse.{mapOf, collapsed, notCollapsible}
 use Rattle.format.specs.declared.CheckAnswer.the-variants.{Accepted}
 
 -- an image that collapse takes: accepted, with this capacity and grain size, KDMV and uncompressed
-pub record Layer (capacity size : ℕ) (s : List ℕ) : Type 0 where
-  pub accepted : check s ≡ Accepted capacity size
+pub record Layer (capacity grainSize : ℕ) (s : List ℕ) : Type 0 where
+  pub accepted : check s ≡ Accepted capacity grainSize
   pub collapsible : notCollapsible (headerOf s) ≡ false
 
--- two maps that agree on the grains that there are
-abbrev pub Alike : ℕ → ℕ → Map → Map → Type 0
-Alike capacity size m k = (g : ℕ) → g < grains capacity size → m g ≡ k g
+-- two maps that agree on the grains that there are; an image whose grains are all absent has the grains of `allAbsent`
+abbrev pub SameGrains : ℕ → ℕ → Map → Map → Type 0
+SameGrains capacity grainSize m k = (g : ℕ) → g < grains capacity grainSize → m g ≡ k g
+
+-- P holds of every member of a list
+pub data Every {A : Type 0} (P : A → Type 0) : List A → Type 0 where
+  none : Every P []
+  more : {x : A} {l : List A} → P x → Every P l → Every P (x ∷ l)
 
 -- ---- layers, base first
--- what holds of each of them
-pub data Every (P : List ℕ → Type 0) : List (List ℕ) → Type 0 where
-  none : Every P []
-  more : {s : List ℕ} {l : List (List ℕ)} → P s → Every P l → Every P (s ∷ l)
-
 -- end to end in one slice, and the list of their lengths
 unfoldable pub endToEnd : List (List ℕ) → List ℕ
 endToEnd [] = []
@@ -36,9 +36,9 @@ lengthsOf [] = []
 lengthsOf (s ∷ l) = length s ∷ lengthsOf l
 
 -- the map of them all: each over those before it
-unfoldable pub stack : List (List ℕ) → Map
-stack [] = nothing
-stack (s ∷ l) = merge (mapOf s) (stack l)
+unfoldable pub mapOfLayers : List (List ℕ) → Map
+mapOfLayers [] = allAbsent
+mapOfLayers (s ∷ l) = merge (mapOf s) (mapOfLayers l)
 
 -- ---- a way to pair off layers: two neighbours, each one layer or paired off already
 pub data Pairing : Type 0 where
@@ -49,7 +49,8 @@ unfoldable pub layersOf : Pairing → List (List ℕ)
 layersOf (layer s) = s ∷ []
 layersOf (pair lower upper) = layersOf lower ++ layersOf upper
 
--- what comes of collapsing so, two at a time; a single layer stays as it is
-unfoldable pub imageOf : Pairing → List ℕ
-imageOf (layer s) = s
-imageOf (pair lower upper) = collapsed (imageOf lower) (imageOf upper)
+-- what comes of collapsing so, two at a time: `collapsed` is what the call writes (`collapse-output`). A single layer stays as
+-- it is
+unfoldable pub pairedImage : Pairing → List ℕ
+pairedImage (layer s) = s
+pairedImage (pair lower upper) = collapsed (pairedImage lower) (pairedImage upper)

@@ -4,13 +4,12 @@ use mathlib.Core.Path.{_≡_, sym, ap, _∙_}
 use mathlib.Core.List.{List, _++_}
 use mathlib.Core.Logic.{⊎-elim}
 use native.Mathlib.Omega.{arith}
-use lib.Dec.{ltb}
-use lib.ListN.{length, getD, take, drop, length-append, getD-replicate, List·getD-append}
+use lib.ListN.{length, getD, take, length-append, getD-replicate, List·getD-append}
 use lib.Seq.{ext-getD, getD-take, getD-append-add, length-take-le}
 use borrow.Author.Tests.{lt-ltb, le-ltb}
 use Rattle.base.specs.Bytes.{over, zeros}
 use Rattle.base.proofs.Over.{first, last, zeros-length}
-use Rattle.base.proofs.Rows.{tabulate-length, tabulate-at, rows-same}
+use Rattle.base.proofs.Rows.{tabulate-length, tabulate-at}
 use Rattle.base.proofs.Steps.{lt-or-ge}
 use Rattle.format.proofs.Picked.{pick-then, pick-else}
 use Rattle.format.specs.Grains.{clip, clipAt}
@@ -20,10 +19,6 @@ unfolding zeros
 zeros-at n i h = getD-replicate n i 0 0 h
 
 module _ (c z g : ℕ) where
-  pub clip-length : (s : List ℕ) → length (clip c z g s) ≡ 512 * z
-  unfolding clip
-  clip-length s = tabulate-length (512 * z) (clipAt c z g s)
-
   module _ (s : List ℕ) (keep : ℕ) (e : keep ≡ min (512 * z) (512 * c - 512 * (g * z))) (h : 512 * z ≤ length s) where
     abbrev bytes : List ℕ
     bytes = take keep s ++ zeros (512 * z - keep)

@@ -8,9 +8,9 @@ use Rattle.base.specs.Numbers.{leBytes}
 use Rattle.base.specs.Bytes.{over, zeros}
 use Rattle.base.specs.Rows.{rows}
 use Rattle.base.proofs.Numbers.{le-length}
-use Rattle.base.proofs.Over.{first, last, parts, zeros-length, zeros-add}
+use Rattle.base.proofs.Over.{first, last, parts, zeros-add}
 use Rattle.format.specs.Kdmv.{kdmvMagic, newlineBytes}
-use Rattle.format.specs.Layout.{grainsAt, header}
+use Rattle.format.specs.Layout.{sectorV, headerBytes}
 use Rattle.layout.specs.Parts.{headerFront, headerBack}
 
 pub front : (d x₁ x₂ x₃ x₄ x₅ x₆ x₇ x₈ : List ℕ) (c n : ℕ) → x₈ ≡ over x₇ 44 (leBytes 4 512) → x₇ ≡ over x₆ 36 (leBytes 8 0)
@@ -39,10 +39,6 @@ front-length : (c n : ℕ) → length (headerFront c n) ≡ 48
 unfolding headerFront rows
 front-length c n = simp (length-append, le-length)
 
-back-length : (v : ℕ) → length (headerBack v) ≡ 464
-unfolding headerBack rows
-back-length v = simp (length-append, le-length, zeros-length)
-
 -- compression and padding are one run of zeros
 two-zeros : zeros 435 ≡ leBytes 2 0 ++ zeros 433
 unfolding leBytes zeros
@@ -51,16 +47,13 @@ two-zeros = sym (zeros-add 2 433)
 regroup : (f p q r s t z y x : List ℕ) → z ≡ y ++ x → f ++ (p ++ q ++ r ++ s ++ t ++ z) ≡ f ++ p ++ q ++ r ++ s ++ t ++ y ++ x
 regroup f p q r s t z y x e = rw e (simp append-assoc)
 
-header-is : (c n : ℕ) → headerFront c n ++ headerBack (grainsAt c n) ≡ header c n
-unfolding headerFront headerBack header rows
+header-is : (c n : ℕ) → headerFront c n ++ headerBack (sectorV c n) ≡ headerBytes c n
+unfolding headerFront headerBack headerBytes rows
 header-is c n =
-    regroup (headerFront c n) (leBytes 8 0) (leBytes 8 1) (leBytes 8 (grainsAt c n)) (zeros 1) newlineBytes (zeros 435)
+    regroup (headerFront c n) (leBytes 8 0) (leBytes 8 1) (leBytes 8 (sectorV c n)) (zeros 1) newlineBytes (zeros 435)
     (leBytes 2 0) (zeros 433) two-zeros
 
-pub header-length : (c n : ℕ) → length (header c n) ≡ 512
-header-length c n = rw (← header-is c n, length-append) (omega (arith, front-length c n, back-length (grainsAt c n)))
-
 pub header-join : (d x y : List ℕ) (c n v : ℕ) → y ≡ over x 48 (headerBack v) → x ≡ over d 0 (headerFront c n)
-    → v ≡ grainsAt c n → y ≡ over d 0 (header c n)
+    → v ≡ sectorV c n → y ≡ over d 0 (headerBytes c n)
 header-join d x y c n v q p e =
     last _ _ _ _ _ _ _ q (first _ _ _ _ 48 p (omega arith) (omega (arith, front-length c n))) ∙ rw (e, header-is c n)

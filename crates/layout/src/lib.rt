@@ -3,16 +3,16 @@ ghost use mathlib.Core.Path.{_≡_};
 ghost use Prim.Native.Nat.{_+_, _*_, _-_, _≤_, _<_, min};
 ghost use lib.ListN.{length};
 ghost use Rattle.base.specs.Bytes.{over};
-ghost use Rattle.base.specs.Rows.{entries};
+ghost use Rattle.base.specs.Rows.{entryBytes};
 ghost use Rattle.format.specs.Grains.{clip};
-ghost use Rattle.format.specs.Layout.{tablesAt, tablesEnd, grainsAt, header, directory, gap};
+ghost use Rattle.format.specs.Layout.{tablesAt, tablesEnd, sectorV, headerBytes, directoryBytes, gapBytes};
 ghost use Rattle.header.specs.Sized.{Sized};
 ghost use Rattle.layout.specs.Parts.{headerFront, headerBack, entriesEnd, unused, withFront};
+use header::sizes::grains_of;
 
 pub mod places;
 
-use places::grains_at;
-use places::grains_of;
+use places::sector_v;
 use places::tables_at;
 use places::tables_end;
 use places::tables_of;
@@ -47,16 +47,16 @@ fn put_back(out: &mut [u8], overhead: u64)
 
 fn write_header(out: &mut [u8], capacity: u64, size: u64)
     requires { ⌜ Sized capacity size × (512 ≤ length (now out)) ⌝ }
-    ensures { λ _. ⌜ now (out .exit) ≡ over (now (out .entry)) 0 (header capacity size) ⌝ }
+    ensures { λ _. ⌜ now (out .exit) ≡ over (now (out .entry)) 0 (headerBytes capacity size) ⌝ }
 {
     put_front(&mut *out, capacity, size);
-    put_back(&mut *out, grains_at(capacity, size));
+    put_back(&mut *out, sector_v(capacity, size));
 }
 
 // The entries of n tables, of which the first stands at sector `first`.
 fn put_directory(out: &mut [u8], first: u64, n: u64)
     requires { ⌜ (512 + 4 * n ≤ length (now out)) × (first + 4 * n < 0x10000000000) ⌝ }
-    ensures { λ _. ⌜ now (out .exit) ≡ over (now (out .entry)) 512 (entries n (λ d. first + 4 * d)) ⌝ }
+    ensures { λ _. ⌜ now (out .exit) ≡ over (now (out .entry)) 512 (entryBytes n (λ d. first + 4 * d)) ⌝ }
 {
     let mut d: u64 = 0;
     while d < n {
@@ -68,7 +68,7 @@ fn put_directory(out: &mut [u8], first: u64, n: u64)
 // The directory, unused entries too.
 fn write_directory(out: &mut [u8], capacity: u64, size: u64)
     requires { ⌜ Sized capacity size × (512 * tablesAt capacity size ≤ length (now out)) ⌝ }
-    ensures { λ _. ⌜ now (out .exit) ≡ over (now (out .entry)) 512 (directory capacity size) ⌝ }
+    ensures { λ _. ⌜ now (out .exit) ≡ over (now (out .entry)) 512 (directoryBytes capacity size) ⌝ }
 {
     let n = tables_of(capacity, size);
     let first = tables_at(capacity, size);
@@ -88,17 +88,17 @@ fn write_unused(out: &mut [u8], capacity: u64, size: u64)
 }
 
 fn write_gap(out: &mut [u8], capacity: u64, size: u64)
-    requires { ⌜ Sized capacity size × (512 * grainsAt capacity size ≤ length (now out)) ⌝ }
-    ensures { λ _. ⌜ now (out .exit) ≡ over (now (out .entry)) (512 * tablesEnd capacity size) (gap capacity size) ⌝ }
+    requires { ⌜ Sized capacity size × (512 * sectorV capacity size ≤ length (now out)) ⌝ }
+    ensures { λ _. ⌜ now (out .exit) ≡ over (now (out .entry)) (512 * tablesEnd capacity size) (gapBytes capacity size) ⌝ }
 {
     let from = 512 * tables_end(capacity, size);
-    let end = 512 * grains_at(capacity, size);
+    let end = 512 * sector_v(capacity, size);
     base::fill(&mut *out, from as usize, (end - from) as usize);
 }
 
 // All that stands before the grains, but for the table entries in use.
 pub fn write_front(out: &mut [u8], capacity: u64, size: u64)
-    requires { ⌜ Sized capacity size × (512 * grainsAt capacity size ≤ length (now out)) ⌝ }
+    requires { ⌜ Sized capacity size × (512 * sectorV capacity size ≤ length (now out)) ⌝ }
     ensures { λ _. ⌜ now (out .exit) ≡ withFront capacity size (now (out .entry)) ⌝ }
 {
     write_header(&mut *out, capacity, size);
@@ -121,7 +121,8 @@ fn kept(capacity: u64, size: u64, g: u64) -> usize
 
 // Grain g at the front of `out`, from bytes that `src` begins with. Its sectors past capacity are not copied: they are zero.
 pub fn write_grain(out: &mut [u8], src: &[u8], capacity: u64, size: u64, g: u64)
-    requires { ⌜ Sized capacity size × (g * size < capacity) × (512 * size ≤ length (now src)) × (512 * size ≤ length (now out)) ⌝ }
+    requires { ⌜ Sized capacity size × (g * size < capacity)
+        × (512 * size ≤ length (now src)) × (512 * size ≤ length (now out)) ⌝ }
     ensures { λ _. ⌜ now (out .exit) ≡ over (now (out .entry)) 0 (clip capacity size g (now (src .entry))) ⌝ }
 {
     let keep = kept(capacity, size, g);

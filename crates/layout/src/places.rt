@@ -1,22 +1,14 @@
 // Where the parts of a collapsed image of a capacity and grain size stand.
 ghost use mathlib.Core.Path.{_≡_};
-ghost use Prim.Native.Nat.{_+_, _*_, _≤_, _<_};
-ghost use Rattle.format.specs.Geometry.{grains};
-ghost use Rattle.format.specs.Layout.{tables, tablesAt, tablesEnd, grainsAt};
+ghost use Prim.Native.Nat.{_≤_};
+ghost use Rattle.format.specs.Layout.{tableCount, tablesAt, tablesEnd, sectorV};
 ghost use Rattle.header.specs.Sized.{Sized};
 use header::sizes::directory_entries;
 use header::sizes::directory_sectors;
 
-pub fn grains_of(capacity: u64, size: u64) -> u64
-    requires { ⌜ Sized capacity size ⌝ }
-    ensures { λ r. ⌜ (r ≡ grains capacity size) × (r ≤ 0x80000000) ⌝ }
-{
-    base::ceil_div(capacity, size)
-}
-
 pub fn tables_of(capacity: u64, size: u64) -> u64
     requires { ⌜ Sized capacity size ⌝ }
-    ensures { λ r. ⌜ (r ≡ tables capacity size) × (r ≤ 0x80000000) ⌝ }
+    ensures { λ r. ⌜ (r ≡ tableCount capacity size) × (r ≤ 0x80000000) ⌝ }
 {
     directory_entries(capacity, 512, size)
 }
@@ -38,9 +30,9 @@ pub fn tables_end(capacity: u64, size: u64) -> u64
 }
 
 // V, the sector of the first grain.
-pub fn grains_at(capacity: u64, size: u64) -> u64
+pub fn sector_v(capacity: u64, size: u64) -> u64
     requires { ⌜ Sized capacity size ⌝ }
-    ensures { λ r. ⌜ (r ≡ grainsAt capacity size) × (r ≤ 0x400000800) ⌝ }
+    ensures { λ r. ⌜ (r ≡ sectorV capacity size) × (r ≤ 0x400000800) ⌝ }
 {
     base::ceil_div(tables_end(capacity, size), size) * size
 }

@@ -37,7 +37,8 @@ module _ (first access sectors : ℕ) (h : sectors ≤ 0x80000000) where
 sectors-say : (first end access sectors : ℕ) (v : List ℕ) → Bounded (withSectors first end access sectors v)
 unfolding withSectors
 sectors-say first end access sectors v =
-    either (sectorsBad sectors) _ _ (λ e. fault) (λ e. type-says first access sectors (ltb-false _ _ (or-no (eqb sectors 0) _ e .1)) end _ _)
+    either (sectorsBad sectors) _ _ (λ e. fault) (λ e. type-says first access sectors
+    (ltb-false _ _ (or-no (eqb sectors 0) _ e .1)) end _ _)
 
 -- ---- keys
 value-says : (end key : ℕ) (v : List ℕ) → key < 5 → Bounded (valueOf end key v)

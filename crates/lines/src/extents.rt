@@ -1,11 +1,13 @@
-// An extent line: access, sectors, type, quoted name, offset, read from left to right by the last functions here. In their parameters
-// `first` is the extent's first virtual sector, `end` the place where the line ends, v what is left of the line.
+// An extent line: access, sectors, type, quoted name, offset, read from left to right by the last functions here. In their
+// parameters `first` is the extent's first virtual sector, `end` the place where the line ends, v what is left of the line.
 ghost use mathlib.Core.Path.{_≡_};
 ghost use Rattle.descriptor.specs.Words.{afterWord};
-ghost use Rattle.descriptor.specs.Extents.{accessOf, typeOf, spacedAt, spaced, offsetOf, extent};
+ghost use Rattle.descriptor.specs.Extents.{accessOf, typeOf, blanksThenDecimalAt, blanksThenDecimal, offsetOf};
 ghost use Rattle.descriptor.specs.Extents.{withName, fromName, withType, fromType, withSectors, fromSectors};
 ghost use Rattle.lines.specs.Bounds.{Within};
+use super::numbers::number_if;
 use super::places::quoted_place;
+use descriptor::Extent;
 use descriptor::Line;
 use descriptor::Stop;
 
@@ -24,56 +26,38 @@ const ZERO: u64 = 5;
 pub fn access(w: &[u8]) -> u64
     ensures { λ r. ⌜ r ≡ accessOf (now (w .entry)) ⌝ }
 {
-    if base::same_word(w, b"rw") {
-        return 1;
-    }
-    if base::same_word(w, b"rdonly") {
-        return 2;
-    }
-    if base::same_word(w, b"noaccess") {
-        return 3;
-    }
-    0
+    let other = number_if(w, b"noaccess", 3, 0);
+    let other = number_if(w, b"rdonly", 2, other);
+    number_if(w, b"rw", 1, other)
 }
 
 // The number of a type; 0 is for any other word.
 fn kind(w: &[u8]) -> u64
     ensures { λ r. ⌜ r ≡ typeOf (now (w .entry)) ⌝ }
 {
-    if base::same_word(w, b"flat") {
-        return FLAT;
-    }
-    if base::same_word(w, b"vmfs") {
-        return VMFS;
-    }
-    if base::same_word(w, b"sparse") {
-        return SPARSE;
-    }
-    if base::same_word(w, b"vmfssparse") {
-        return VMFSSPARSE;
-    }
-    if base::same_word(w, b"zero") {
-        return ZERO;
-    }
-    0
+    let other = number_if(w, b"zero", ZERO, 0);
+    let other = number_if(w, b"vmfssparse", VMFSSPARSE, other);
+    let other = number_if(w, b"sparse", SPARSE, other);
+    let other = number_if(w, b"vmfs", VMFS, other);
+    number_if(w, b"flat", FLAT, other)
 }
 
 // The decimal v, where one or more spaces or tabs stand before it.
-fn spaced_at(blanks: usize, v: &[u8]) -> u64
-    ensures { λ r. ⌜ r ≡ spacedAt blanks (now (v .entry)) ⌝ }
+fn blanks_then_decimal_at(blanks: usize, v: &[u8]) -> u64
+    ensures { λ r. ⌜ r ≡ blanksThenDecimalAt blanks (now (v .entry)) ⌝ }
 {
     if blanks == 0 {
-        return words::NONE;
+        return words::NO_VALUE;
     }
     words::decimal(v)
 }
 
 // The decimal in v, behind the spaces or tabs that v starts with.
-fn spaced(v: &[u8]) -> u64
-    ensures { λ r. ⌜ r ≡ spaced (now (v .entry)) ⌝ }
+fn blanks_then_decimal(v: &[u8]) -> u64
+    ensures { λ r. ⌜ r ≡ blanksThenDecimal (now (v .entry)) ⌝ }
 {
-    spaced_at(
-        words::until(v, Stop::NotBlank),
+    blanks_then_decimal_at(
+        words::count_before(v, Stop::NotBlank),
         words::rest(v, Stop::NotBlank),
     )
 }
@@ -84,58 +68,28 @@ fn offset(kind: u64, v: &[u8]) -> u64
 {
     if v.len() == 0 {
         if kind == FLAT {
-            return words::NONE;
+            return words::NO_VALUE;
         }
         return 0;
     }
     if (kind == FLAT) | (kind == VMFS) {
-        return spaced(v);
+        return blanks_then_decimal(v);
     }
-    words::NONE
-}
-
-// The record of the lent list; what a line doesn't have is 0.
-fn extent(
-    first: u64,
-    access: u64,
-    sectors: u64,
-    kind: u64,
-    name_at: u64,
-    name_length: u64,
-    offset: u64,
-) -> Line
-    ensures { λ r. ⌜ r ≡ extent first access sectors kind «name_at» «name_length» offset ⌝ }
-{
-    Line::Holds(descriptor::Extent {
-        first,
-        sectors,
-        access,
-        kind,
-        name_at,
-        name_length,
-        offset,
-    })
+    words::NO_VALUE
 }
 
 // Names have 1 to 255 bytes, offsets are 0 to 2^32-1.
-fn with_name(
-    first: u64,
-    access: u64,
-    sectors: u64,
-    kind: u64,
-    name_at: u64,
-    name_length: u64,
-    offset: u64,
-) -> Line
-    ensures { λ r. ⌜ r ≡ withName first access sectors kind «name_at» «name_length» offset ⌝ }
+fn with_name(e: Extent) -> Line
+    ensures { λ r.
+        ⌜ r ≡ withName (e .first) (e .access) (e .sectors) (e .kind) (e .«name_at») (e .«name_length») (e .offset) ⌝ }
 {
-    if (name_length == 0) | (255 < name_length) {
+    if (e.name_length == 0) | (255 < e.name_length) {
         return Line::Fault(34);
     }
-    if 0xffffffff < offset {
+    if 0xffffffff < e.offset {
         return Line::Fault(34);
     }
-    extent(first, access, sectors, kind, name_at, name_length, offset)
+    Line::Holds(e)
 }
 
 // v is the quoted name and what stands after it.
@@ -144,18 +98,18 @@ fn from_name(first: u64, end: u64, access: u64, sectors: u64, kind: u64, v: &[u8
     ensures { λ r. ⌜ r ≡ fromName first end access sectors kind (now (v .entry)) ⌝ }
 {
     let offset = offset(kind, words::after_quoted(v));
-    with_name(
+    with_name(Extent {
         first,
-        access,
         sectors,
+        access,
         kind,
-        quoted_place(end, v),
-        words::quoted_length(v),
+        name_at: quoted_place(end, v),
+        name_length: words::quoted_length(v),
         offset,
-    )
+    })
 }
 
-// ZERO has neither name nor offset, every other type needs a name.
+// ZERO has neither name nor offset, every other type needs a name. What a line doesn't have is 0.
 fn with_type(first: u64, end: u64, access: u64, sectors: u64, kind: u64, v: &[u8]) -> Line
     requires { ⌜ Within end (now v) ⌝ }
     ensures { λ r. ⌜ r ≡ withType first end access sectors kind (now (v .entry)) ⌝ }
@@ -165,7 +119,15 @@ fn with_type(first: u64, end: u64, access: u64, sectors: u64, kind: u64, v: &[u8
     }
     if kind == ZERO {
         if v.len() == 0 {
-            return extent(first, access, sectors, ZERO, 0, 0, 0);
+            return Line::Holds(Extent {
+                first,
+                sectors,
+                access,
+                kind: ZERO,
+                name_at: 0,
+                name_length: 0,
+                offset: 0,
+            });
         }
         return Line::Fault(34);
     }

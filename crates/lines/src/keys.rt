@@ -2,9 +2,10 @@
 ghost use mathlib.Core.Path.{_≡_};
 ghost use Prim.Native.Nat.{_≤_};
 ghost use lib.ListN.{length};
-ghost use Rattle.descriptor.specs.Words.{none, decimal, hex, quotedPlace, quotedLength};
+ghost use Rattle.descriptor.specs.Words.{noValue, decimal, hex, quotedPlace, quotedLength};
 ghost use Rattle.descriptor.specs.Keys.{keyOf, versionIs, cidIs, createTypeIs, valueOf, withKey, splitAt, keyLine};
 ghost use Rattle.lines.specs.Bounds.{Within};
+use super::numbers::number_if;
 use super::places::quoted_place;
 use descriptor::Line;
 use descriptor::Stop;
@@ -22,19 +23,10 @@ const CREATE_TYPE: u64 = 4;
 fn key(w: &[u8]) -> u64
     ensures { λ r. ⌜ r ≡ keyOf (now (w .entry)) ⌝ }
 {
-    if base::same_word(w, b"version") {
-        return VERSION;
-    }
-    if base::same_word(w, b"cid") {
-        return CID;
-    }
-    if base::same_word(w, b"parentcid") {
-        return PARENT_CID;
-    }
-    if base::same_word(w, b"createtype") {
-        return CREATE_TYPE;
-    }
-    0
+    let other = number_if(w, b"createtype", CREATE_TYPE, 0);
+    let other = number_if(w, b"parentcid", PARENT_CID, other);
+    let other = number_if(w, b"cid", CID, other);
+    number_if(w, b"version", VERSION, other)
 }
 
 // Versions are 1 to 3.
@@ -57,7 +49,7 @@ fn version(v: &[u8]) -> Line
 fn cid_is(key: u64, n: u64) -> Line
     ensures { λ r. ⌜ r ≡ cidIs key n ⌝ }
 {
-    if n == words::NONE {
+    if n == words::NO_VALUE {
         return Line::Fault(33);
     }
     Line::Key(key, n, 0)
@@ -71,10 +63,10 @@ fn cid(key: u64, v: &[u8]) -> Line
 
 // The n bytes of a createType and its two quotes are all `long` bytes of the value.
 fn create_type_is(place: u64, long: u64, n: u64) -> Line
-    requires { ⌜ n ≤ none ⌝ }
+    requires { ⌜ n ≤ noValue ⌝ }
     ensures { λ r. ⌜ r ≡ createTypeIs place long n ⌝ }
 {
-    if n == words::NONE {
+    if n == words::NO_VALUE {
         return Line::Fault(33);
     }
     if long == n + 2 {
@@ -142,5 +134,5 @@ pub fn key_line(end: u64, w: &[u8]) -> Line
     requires { ⌜ Within end (now w) ⌝ }
     ensures { λ r. ⌜ r ≡ keyLine end (now (w .entry)) ⌝ }
 {
-    split_at(end, w, words::until(w, Stop::Byte(b'=')))
+    split_at(end, w, words::count_before(w, Stop::Byte(b'=')))
 }

@@ -6,6 +6,7 @@ use descriptor::Line;
 
 mod extents;
 mod keys;
+mod numbers;
 mod places;
 
 // The line w, whose first word has the number `access`, 0 if it is no access.
@@ -26,7 +27,8 @@ fn line_with(first: u64, end: u64, w: &[u8], access: u64) -> Line
     extents::extent_line(first, end, access, w)
 }
 
-// What the trimmed line w says: `first` is the first virtual sector of the extent that it may be, `end` the place where it ends.
+// What the trimmed line w says: `first` is the first virtual sector of the extent that it may be, `end` the place where it
+// ends.
 pub fn line(first: u64, end: u64, w: &[u8]) -> Line
     requires { ⌜ Within end (now w) ⌝ }
     ensures { λ r. ⌜ (r ≡ line first end (now (w .entry))) × Bounded r ⌝ }

@@ -1,30 +1,29 @@
 -- What the lookup asks on its way, each premise as the code gives it.
 use Prim.Native.Nat.{ℕ, _+_, _*_, _/_, _%_, _≤_, _<_}
-use mathlib.Core.Path.{_≡_, refl, sym, ap, _∙_}
+use mathlib.Core.Path.{_≡_, sym, _∙_}
 use mathlib.Core.List.{List}
 use mathlib.Core.Bool.{Bool, true, false}
-use mathlib.Core.Logic.{⊎-elim}
 use native.Mathlib.Omega.{arith}
 use native.Mathlib.Nat.{mul-le-mul, mod-lt, div-le-self}
-use lib.Dec.{ltb, eqb}
+use lib.Dec.{ltb}
 use lib.ListN.{length}
 use mir.Syntax.{w64}
 use mir.Val.{Fits}
-use borrow.Author.Tests.{ltb-false, lt-ltb}
+use borrow.Author.Tests.{ltb-false}
 use Rattle.base.specs.Pick.{pick}
 use Rattle.base.specs.Rounding.{ceil}
-use Rattle.base.proofs.Steps.{or-no, true-or-false}
 use Rattle.format.specs.Geometry.{fileSectors}
 use Rattle.format.specs.Entries.{markerSize, grainSectors}
 use Rattle.format.specs.Check.{directoryMisplaced}
 use Rattle.format.specs.Source.{grainSource, lookupEntry, lookupTable, lookupFrom}
 use Rattle.format.specs.declared.Header.{Header}
 use Rattle.format.specs.declared.Entry.{Entry}
-use Rattle.format.specs.declared.Source.{Source}
 use Rattle.format.specs.declared.Source.the-variants.{Packed}
 use Rattle.format.specs.declared.HeaderAnswer.{HeaderAnswer}
 use Rattle.format.specs.declared.LookupAnswer.{LookupAnswer}
 use Rattle.format.proofs.Geometry.{grain-of, entry-used}
+use Rattle.format.proofs.Entries.{some-sectors, grain-past}
+use Rattle.format.proofs.Places.{directory-in}
 use Rattle.header.specs.Sized.{Sound}
 
 -- ---- markers
@@ -41,34 +40,32 @@ module _ (s : List ℕ) (packed : Bool) (e m : ℕ) (p : packed ≡ true) (q : m
   packed-source o = rw (p, ← q)
 
 -- ---- a grain past F
--- a grain takes a sector at least, whatever a marker there would say
-pub some-sectors : (s : List ℕ) (packed : Bool) (size e : ℕ) → 1 ≤ size → 1 ≤ grainSectors s packed size e
-unfolding grainSectors pick
-some-sectors s packed size e h = ⊎-elim (λ y. rw y (omega arith)) (λ n. rw n h) (true-or-false packed)
-
 module _ (s : List ℕ) (packed : Bool) (size e : ℕ) (one : 1 ≤ size) where
   pub past-out : (f : ℕ) → f ≡ fileSectors s → f ≤ e → true ≡ ltb (fileSectors s) (e + grainSectors s packed size e)
-  past-out f q l = sym (lt-ltb (fileSectors s) (e + grainSectors s packed size e) (omega (arith, some-sectors s packed size e one)))
+  past-out f q l = sym (grain-past packed size e one s (fileSectors s) (omega arith))
 
   -- where it does not run past F, its first sector can be read
   pub grain-read : {r : Bool} → r ≡ ltb (fileSectors s) (e + grainSectors s packed size e) → r ≡ false → 512 * e + 12 ≤ length s
-  grain-read q n = omega (arith, some-sectors s packed size e one, ltb-false (fileSectors s) (e + grainSectors s packed size e) (sym q ∙ n))
+  grain-read q n =
+      omega (arith, some-sectors s packed size e one, ltb-false (fileSectors s) (e + grainSectors s packed size e) (sym q ∙ n))
 
 -- ---- what is read lies in the file
 -- the entry of grain g in a table that does not run past F
-pub table-read : {r : Bool} (s : List ℕ) (h : Header) (t g : ℕ) → Sound h → r ≡ ltb (fileSectors s) (t + h .«table_sectors») → r ≡ false → 512 * t + 4 * (g % h .«entries_per_table») + 4 ≤ length s
+pub table-read : {r : Bool} (s : List ℕ) (h : Header) (t g : ℕ) → Sound h → r ≡ ltb (fileSectors s) (t + h .«table_sectors»)
+    → r ≡ false → 512 * t + 4 * (g % h .«entries_per_table») + 4 ≤ length s
 table-read s h t g z e b =
     let k : g % h .«entries_per_table» < h .«entries_per_table» = mod-lt g (z .some) in
     omega (arith, z .table, ltb-false (fileSectors s) (t + h .«table_sectors») (sym e ∙ b))
 
 -- the directory entry of a sector's grain, where the directory does not run past F
-pub directory-read : {r : Bool} (s : List ℕ) (h : Header) (x : ℕ) → Sound h → x < h .capacity → r ≡ directoryMisplaced (fileSectors s) h → r ≡ false
+pub directory-read : {r : Bool} (s : List ℕ) (h : Header) (x : ℕ) → Sound h → x < h .capacity → r
+    ≡ directoryMisplaced (fileSectors s) h → r ≡ false
     → 512 * h .directory + 4 * (x / h .«grain_size» / h .«entries_per_table») + 4 ≤ length s
 directory-read s h x z l e b =
-    let n = or-no (eqb (h .directory) 0) (ltb (fileSectors s) (h .directory + h .«directory_sectors»)) (sym e ∙ b) in
     let g = grain-of (h .capacity) (h .«grain_size») (z .sizes .low) x l in
-    let d = entry-used (h .capacity) (h .«grain_size») (z .sizes .low) (h .«entries_per_table») (z .some) (x / h .«grain_size») g in
-    omega (arith, z .directory, ltb-false (fileSectors s) (h .directory + h .«directory_sectors») (n .1))
+    let d = entry-used (h .capacity) (h .«grain_size») (z .sizes .low) (h .«entries_per_table») (z .some)
+    (x / h .«grain_size») g in
+    omega (arith, z .directory, directory-in (fileSectors s) h (sym e ∙ b))
 
 -- a sector below capacity: its grain's number is small, and it is one of the grain's sectors
 pub grain-small : (h : Header) (x : ℕ) → Sound h → x < h .capacity → x / h .«grain_size» ≤ 0x80000000
@@ -78,11 +75,14 @@ pub sector-of : (h : Header) (x : ℕ) → Sound h → x % h .«grain_size» < h
 sector-of h x z = mod-lt x (z .sizes .low)
 
 -- ---- at an arm of a match
-pub entry-as : (s : List ℕ) (h : Header) (g o : ℕ) (z : LookupAnswer) (r v : Entry) → r ≡ v → z ≡ lookupEntry s h g o v → z ≡ lookupEntry s h g o r
+pub entry-as : (s : List ℕ) (h : Header) (g o : ℕ) (z : LookupAnswer) (r v : Entry) → r ≡ v → z ≡ lookupEntry s h g o v → z
+    ≡ lookupEntry s h g o r
 entry-as s h g o z r v e t = rw e t
 
-pub table-as : (s : List ℕ) (h : Header) (g o : ℕ) (z : LookupAnswer) (r v : Entry) → r ≡ v → z ≡ lookupTable s h g o v → z ≡ lookupTable s h g o r
+pub table-as : (s : List ℕ) (h : Header) (g o : ℕ) (z : LookupAnswer) (r v : Entry) → r ≡ v → z ≡ lookupTable s h g o v → z
+    ≡ lookupTable s h g o r
 table-as s h g o z r v e t = rw e t
 
-pub judged-as : (s : List ℕ) (x : ℕ) (z : LookupAnswer) (a r v : HeaderAnswer) → r ≡ a → r ≡ v → z ≡ lookupFrom s x v → z ≡ lookupFrom s x a
+pub judged-as : (s : List ℕ) (x : ℕ) (z : LookupAnswer) (a r v : HeaderAnswer) → r ≡ a → r ≡ v → z ≡ lookupFrom s x v → z
+    ≡ lookupFrom s x a
 judged-as s x z a r v e q t = rw (← e, q) t

@@ -4,16 +4,15 @@ use mathlib.Core.Path.{_≡_, refl, sym, subst, _∙_}
 use mathlib.Core.List.{List}
 use mathlib.Core.Bool.{Bool, true, false}
 use native.Mathlib.Omega.{arith}
-use lib.Dec.{ltb}
 use lib.ListN.{length, take, drop}
 use borrow.Author.Tests.{ltb-false}
 use Rattle.base.specs.Pick.{pick}
 use Rattle.base.proofs.Steps.{cond-all}
-use Rattle.format.specs.Geometry.{fileSectors, bytesAt}
+use Rattle.format.specs.Geometry.{fileSectors}
 use Rattle.format.specs.Header.{judge}
 use Rattle.format.specs.Entries.{grainSectors}
-use Rattle.format.specs.Source.{grainSource, lookupGrain, lookupEntry, lookupTable, lookupIn, lookupFrom, lookup, sourceBytes, answerBytes, read}
-use Rattle.format.specs.Answers.{sourcePart, part}
+use Rattle.format.specs.Source.{grainSource, lookupGrain, lookupEntry, lookupTable, lookupIn, lookupFrom, sectorLookup}
+use Rattle.format.specs.Source.{sourcePart, answerPart, answerBytes, read}
 use Rattle.format.specs.declared.Part.{Part}
 use Rattle.format.specs.declared.Header.{Header}
 use Rattle.format.specs.declared.Entry.{Entry}
@@ -34,7 +33,8 @@ pub data Served (s : List ℕ) : LookupAnswer → Type 0 where
   refused : {r : Refusal} → Served s (Refused r)
   found : {source : Source} → partEnd source ≤ length s → Served s (Found source)
 
-source-end : (s : List ℕ) (packed : Bool) (size o e : ℕ) → o < size → e + grainSectors s packed size e ≤ fileSectors s → partEnd (grainSource s packed o e) ≤ length s
+source-end : (s : List ℕ) (packed : Bool) (size o e : ℕ) → o < size → e + grainSectors s packed size e ≤ fileSectors s
+    → partEnd (grainSource s packed o e) ≤ length s
 unfolding grainSource grainSectors pick
 source-end s true size o e l h = omega arith
 source-end s false size o e l h = omega arith
@@ -46,7 +46,8 @@ module _ (s : List ℕ) (h : Header) where
       cond-all (Served s) _ _ _ (λ p. refused)
       (λ n.
       cond-all (Served s) _ _ _ (λ p. refused)
-      (λ m. found (source-end s (h .packed) (h .«grain_size») o e l (ltb-false (fileSectors s) (e + grainSectors s (h .packed) (h .«grain_size») e) n))))
+      (λ m. found (source-end s (h .packed) (h .«grain_size») o e l
+      (ltb-false (fileSectors s) (e + grainSectors s (h .packed) (h .«grain_size») e) n))))
 
   entry-served : (g o : ℕ) (d : Entry) → o < h .«grain_size» → Served s (lookupEntry s h g o d)
   unfolding lookupEntry
@@ -74,10 +75,12 @@ from-served s x (Known h) e = in-served s h (judged-sound (Known h) s h e refl) 
 found-of : {s : List ℕ} {source : Source} → Served s (Found source) → partEnd source ≤ length s
 found-of (found l) = l
 
-served-inside : (a : LookupAnswer) (s : List ℕ) (x : ℕ) (source : Source) → a ≡ lookup s x → a ≡ Found source → partEnd source ≤ length s
+served-inside : (a : LookupAnswer) (s : List ℕ) (x : ℕ) (source : Source) → a ≡ sectorLookup s x → a ≡ Found source
+    → partEnd source ≤ length s
 served-inside a s x source e q = found-of (subst (Served s) (sym e ∙ q) (from-served s x (judge s) refl))
 
-pub served-fits : (a : LookupAnswer) (s : List ℕ) (x : ℕ) (source : Source) → a ≡ lookup s x → a ≡ Found source → length s < 2 ^ 64 → partEnd source < 2 ^ 64
+pub served-fits : (a : LookupAnswer) (s : List ℕ) (x : ℕ) (source : Source) → a ≡ sectorLookup s x → a ≡ Found source
+    → length s < 2 ^ 64 → partEnd source < 2 ^ 64
 served-fits a s x source e q l = omega (arith, served-inside a s x source e q)
 
 -- ---- at an arm of a match
@@ -91,32 +94,23 @@ module _ (r : Source) (n : ℕ) (l : partEnd r < n) where
 pub source-as : (z : Part) (r v : Source) → r ≡ v → z ≡ sourcePart v → z ≡ sourcePart r
 source-as z r v e t = rw e t
 
-pub part-as : (z : Part) (a r v : LookupAnswer) → r ≡ a → r ≡ v → z ≡ part v → z ≡ part a
+pub part-as : (z : Part) (a r v : LookupAnswer) → r ≡ a → r ≡ v → z ≡ answerPart v → z ≡ answerPart a
 part-as z a r v e q t = rw (← e, q) t
 
 -- ---- the part that the reader hands back
-served-end : (s : List ℕ) (a : LookupAnswer) → Served s a → part a .at + part a .length ≤ length s
+served-end : (s : List ℕ) (a : LookupAnswer) → Served s a → answerPart a .at + answerPart a .length ≤ length s
 served-end s (Refused r) v = omega arith
 served-end s (Found source) (found l) = l
 
-pub part-inside : (r : Part) (s : List ℕ) (x : ℕ) → r ≡ part (lookup s x) → r .at + r .length ≤ length s
-part-inside r s x e = rw e (served-end s (lookup s x) (from-served s x (judge s) refl))
+pub part-inside : (r : Part) (s : List ℕ) (x : ℕ) → r ≡ answerPart (sectorLookup s x) → r .at + r .length ≤ length s
+part-inside r s x e = rw e (served-end s (sectorLookup s x) (from-served s x (judge s) refl))
 
-pub part-fits : (r : Part) (s : List ℕ) (x : ℕ) → r ≡ part (lookup s x) → length s < 2 ^ 64 → r .at + r .length < 2 ^ 64
+pub part-fits : (r : Part) (s : List ℕ) (x : ℕ) → r ≡ answerPart (sectorLookup s x) → length s < 2 ^ 64 → r .at + r .length
+    < 2 ^ 64
 part-fits r s x e l = omega (arith, part-inside r s x e)
 
-source-bytes : (s : List ℕ) (source : Source) → bytesAt s (sourcePart source .at) (sourcePart source .length) ≡ sourceBytes s source
-unfolding sourceBytes
-source-bytes s noSource = refl
-source-bytes s zeroSource = refl
-source-bytes s (Stored sector) = refl
-source-bytes s (Packed marker size o) = refl
-
-part-bytes : (s : List ℕ) (a : LookupAnswer) → bytesAt s (part a .at) (part a .length) ≡ answerBytes s a
-unfolding answerBytes
-part-bytes s (Refused r) = refl
-part-bytes s (Found source) = source-bytes s source
-
 -- a part by its ends is a part by its start and length
-pub part-read : (r : Part) (s : List ℕ) (x : ℕ) → r ≡ part (lookup s x) → take (r .at + r .length - r .at) (drop (r .at) s) ≡ read s x
-part-read r s x e = let n : r .at + r .length - r .at ≡ r .length = omega arith in rw (n, e) (part-bytes s (lookup s x))
+pub part-read : (r : Part) (s : List ℕ) (x : ℕ) → r ≡ answerPart (sectorLookup s x)
+    → take (r .at + r .length - r .at) (drop (r .at) s) ≡ read s x
+unfolding answerBytes
+part-read r s x e = let n : r .at + r .length - r .at ≡ r .length = omega arith in rw (n, e)

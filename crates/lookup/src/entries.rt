@@ -5,7 +5,7 @@ ghost use lib.Dec.{ltb};
 ghost use Prim.Native.Nat.{_+_, _*_, _≤_, _<_};
 ghost use lib.ListN.{length};
 ghost use Rattle.format.specs.Geometry.{fileSectors};
-ghost use Rattle.format.specs.Entries.{entryAt, meaning, tableAt, markerSize, grainSectors, markerBroken};
+ghost use Rattle.format.specs.Entries.{entryAt, meaning, meaningAt, markerSize, grainSectors, markerBroken};
 ghost use Rattle.format.specs.Check.{directoryMisplaced};
 use format::Entry;
 use format::Header;
@@ -38,9 +38,9 @@ pub fn meaning_of(one_is_zero: bool, e: u64) -> Entry
     Entry::Sector(e)
 }
 
-pub fn table_at(image: &[u8], one_is_zero: bool, t: u64, k: u64) -> Entry
+pub fn meaning_at(image: &[u8], one_is_zero: bool, t: u64, k: u64) -> Entry
     requires { ⌜ 512 * t + 4 * k + 4 ≤ length (now image) ⌝ }
-    ensures { λ r. ⌜ r ≡ tableAt (now (image .entry)) «one_is_zero» t k ⌝ }
+    ensures { λ r. ⌜ r ≡ meaningAt (now (image .entry)) «one_is_zero» t k ⌝ }
 {
     meaning_of(one_is_zero, entry_at(image, t, k))
 }

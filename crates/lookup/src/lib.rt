@@ -1,9 +1,8 @@
 // Where a sector comes from: the lookup, and the grain reader over it. Work does not grow with the image.
 ghost use mathlib.Core.Path.{_≡_};
-ghost use Prim.Native.Nat.{_+_, _*_, _/_, _%_, _≤_, _<_};
+ghost use Prim.Native.Nat.{_+_, _/_, _%_, _≤_, _<_};
 ghost use lib.ListN.{length};
-ghost use Rattle.format.specs.Source.{lookupTable, lookupIn, lookup, read};
-ghost use Rattle.format.specs.Answers.{part};
+ghost use Rattle.format.specs.Source.{lookupTable, lookupIn, sectorLookup, read, answerPart};
 ghost use Rattle.format.specs.declared.Entry.the-variants.{Sector};
 ghost use Rattle.header.specs.Sized.{Sound};
 use format::Entry;
@@ -27,7 +26,7 @@ fn in_table(image: &[u8], h: Header, g: u64, o: u64, t: u64) -> LookupAnswer
         return LookupAnswer::Refused(Refusal::Misplaced);
     }
     let k = g % h.entries_per_table;
-    let entry = entries::table_at(image, h.one_is_zero, t, k);
+    let entry = entries::meaning_at(image, h.one_is_zero, t, k);
     grain::lookup_entry(image, h, g, o, entry)
 }
 
@@ -56,13 +55,13 @@ fn lookup_in(image: &[u8], h: Header, sector: u64) -> LookupAnswer
     }
     let g = sector / h.grain_size;
     let d = g / h.entries_per_table;
-    let entry = entries::table_at(image, h.one_is_zero, h.directory, d);
+    let entry = entries::meaning_at(image, h.one_is_zero, h.directory, d);
     lookup_table(image, h, g, sector % h.grain_size, entry)
 }
 
 // The source of a virtual sector, or the first of 1 to 7, 20, 8, 9, 10 that is met on the way to it.
 pub fn lookup(image: &[u8], sector: u64) -> LookupAnswer
-    ensures { λ r. ⌜ r ≡ lookup (now (image .entry)) sector ⌝ }
+    ensures { λ r. ⌜ r ≡ sectorLookup (now (image .entry)) sector ⌝ }
 {
     let judged = header::judge(image);
     match judged {
@@ -73,7 +72,7 @@ pub fn lookup(image: &[u8], sector: u64) -> LookupAnswer
 
 // Where the bytes of that source stand in the image; 0 and 0 where there are none, and on every refusal.
 pub fn part(image: &[u8], sector: u64) -> Part
-    ensures { λ r. ⌜ r ≡ part (lookup (now (image .entry)) sector) ⌝ }
+    ensures { λ r. ⌜ r ≡ answerPart (sectorLookup (now (image .entry)) sector) ⌝ }
 {
     let answer = lookup(image, sector);
     match answer {

@@ -1,7 +1,7 @@
 // The grain reader's parts: where in the image the bytes of a source stand.
 ghost use mathlib.Core.Path.{_≡_};
 ghost use Prim.Native.Nat.{_+_, _*_, _^_, _<_};
-ghost use Rattle.format.specs.Answers.{sourcePart};
+ghost use Rattle.format.specs.Source.{sourcePart};
 ghost use Rattle.lookup.specs.Parts.{partEnd};
 use format::Part;
 use format::Source;

@@ -34,7 +34,13 @@ module _ (ws : List ℕ) (from end base m : ℕ) (aligned : base % 64 ≡ 0) (ma
       let small : k < 64 = r .1 in
       let low : base + k < from → ⊥ = λ n. omega (arith, r .3, mask .under k small n) in
       let high : end ≤ base + k → ⊥ = λ n. omega (arith, r .3, mask .over k small n) in
-      tested-taken ws from end (base + k, omega arith, omega arith, sector-at ws (base / 64) k (base + k) small (omega arith) ∙ r .2)
+      tested-taken ws from end (
+        base + k,
+        omega arith,
+        omega arith,
+        sector-at ws (base / 64) k (base + k) small (omega arith)
+            ∙ r .2,
+      )
 
   -- ---- marked
   module _ (h : base / 64 < length ws) where

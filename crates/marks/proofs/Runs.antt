@@ -35,7 +35,8 @@ module _ (ws : List ℕ) (from end : ℕ) where
   pub tested-taken : Taken ws from end → Tested ws from end false
   tested-taken t = record { free = λ y. absurd (false≢true y); taken = λ n. t }
 
-tested-join : {ws : List ℕ} {f m e : ℕ} {p q : Bool} → f ≤ m → m ≤ e → Tested ws f m p → Tested ws m e q → Tested ws f e (p && q)
+tested-join : {ws : List ℕ} {f m e : ℕ} {p q : Bool} → f ≤ m → m ≤ e → Tested ws f m p → Tested ws m e q
+    → Tested ws f e (p && q)
 tested-join {ws} {p = true} low high t u =
     record {
       free = λ y. free-join ws (t .free refl) (u .free y);

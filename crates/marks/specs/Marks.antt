@@ -36,7 +36,8 @@ pub record Put (before after : List ℕ) (from end : ℕ) : Type 0 where
   pub under : (s : ℕ) → s < from → marked after s ≡ marked before s
   pub over : (s : ℕ) → end ≤ s → marked after s ≡ marked before s
 
--- what marking a run answers and does: true, and it was free and is marked now; or false, and it was taken and nothing is changed
+-- what marking a run answers and does: true, and it was free and is marked now; or false, and it was taken and nothing is
+-- changed
 pub record Marking (before after : List ℕ) (from end : ℕ) (r : Bool) : Type 0 where
   pub was-free : r ≡ true → Free before from end
   pub now-put : r ≡ true → Put before after from end

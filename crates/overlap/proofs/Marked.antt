@@ -30,7 +30,8 @@ module _ (lo : ℕ) (ws₀ : List ℕ) (p : ℕ → List Area) where
   module _ (ws xs : List ℕ) (base last : ℕ) (l : List Area) (r : Bool) (m : Marked lo ws₀ (rows base p) ws)
       (same : rows last (λ k. p (base + k)) ≡ l) (g : Run lo ws l xs r) where
     pub marked-rows : r ≡ false → Marked lo ws₀ (rows (base + last) p) xs
-    marked-rows e = record { size = run-length g ∙ m .size; run = rw (rows-split base last p, same) (run-more (m .run) refl (rw e at g)) }
+    marked-rows e =
+        record { size = run-length g ∙ m .size; run = rw (rows-split base last p, same) (run-more (m .run) refl (rw e at g)) }
 
     pub met-rows : (n : ℕ) → base + last ≤ n → r ≡ true → Run lo ws₀ (rows n p) xs true
     met-rows n h e =

@@ -1,47 +1,55 @@
 -- What `InFile` says to each part of the walk.
 use Prim.Native.Nat.{ℕ, _+_, _*_, _-_, _≤_, _<_, _^_}
-use mathlib.Core.Path.{_≡_, refl, ap}
+use mathlib.Core.Path.{_≡_, refl}
 use mathlib.Core.List.{List, [], _++_, append-assoc}
-use mathlib.Core.Bool.{Bool, true, false, not}
+use mathlib.Core.Bool.{Bool, true, false}
 use native.Mathlib.Omega.{arith}
-use native.Mathlib.Nat.{lt-of-mul-lt-mul-right}
 use lib.ListN.{length}
-use borrow.Author.Tests.{eq-eqb, ne-eqb, le-ltb}
+use borrow.Author.Tests.{eq-eqb, le-ltb}
 use Rattle.base.specs.Pick.{pick}
 use Rattle.base.specs.Rows.{rows}
 use Rattle.base.specs.Rounding.{ceil}
 use Rattle.format.specs.Geometry.{fileSectors, grains}
-use Rattle.format.specs.Header.{grainsOf, entriesOf}
+use Rattle.format.specs.Header.{grainsOf, directoryEntriesOf}
 use Rattle.format.specs.Entries.{entryAt, grainSectors}
-use Rattle.format.specs.Areas.{Area, area, ifThere, headerArea, descriptorArea, directoryArea, redundantArea, tableAreas, primaryTables, redundantTables, footerArea, lastArea, grainArea, grainAreas, areas, runsPast}
+use Rattle.format.specs.Areas.{Area, area, ifThere, headerArea, descriptorArea, directoryArea, redundantArea, tableAreas}
+use Rattle.format.specs.Areas.{primaryTables, redundantTables, footerArea, lastArea, grainArea, grainAreas, areas, runsPast}
 use Rattle.format.specs.declared.Header.{Header}
-use Rattle.format.proofs.Geometry.{grains-few, entries-enough}
+use Rattle.format.proofs.Geometry.{grains-few, table-used}
 use Rattle.format.proofs.Inside.{Inside, groups-in, one-in, rows-in, in-rows, there-in}
+use Rattle.format.proofs.Places.{redundant-in, redundant-tables}
 use Rattle.overlap.specs.Run.{Run, done}
 use Rattle.overlap.specs.Named.{leastSector, entryArea, grainNamed}
-use Rattle.overlap.specs.Placed.{InFile, headAreas, directoryAreas, frontAreas, tablesOfBoth, backAreas, Ends, Listed, Grained}
+use Rattle.overlap.specs.Placed.{InFile, headAreas, directoryAreas, frontAreas, tablesOfBoth, backAreas, Ends, Listed}
+use Rattle.overlap.specs.Placed.{Grained}
 use Rattle.overlap.proofs.Runs.{run-more, run-stop}
 use Rattle.overlap.proofs.Named.{tables-named, entry-ends, entry-inside}
 use Rattle.overlap.proofs.Grains.{grain-at}
 
 -- the areas, as functions mark them
-regroup : (a b c d e f g i j : List Area) → a ++ (b ++ (c ++ (d ++ (e ++ (f ++ (g ++ (i ++ j))))))) ≡ ((a ++ b) ++ (c ++ d)) ++ ((e ++ f) ++ ((g ++ i) ++ j))
+regroup : (a b c d e f g i j : List Area) → a ++ (b ++ (c ++ (d ++ (e ++ (f ++ (g ++ (i ++ j))))))) ≡ ((a ++ b) ++ (c ++ d))
+    ++ ((e ++ f) ++ ((g ++ i) ++ j))
 regroup a b c d e f g i j = simp append-assoc
 
-pub areas-grouped : (s : List ℕ) (h : Header) → areas s h ≡ frontAreas h ++ (tablesOfBoth s h ++ (backAreas s h ++ grainAreas s h))
+pub areas-grouped : (s : List ℕ) (h : Header) → areas s h ≡ frontAreas h
+    ++ (tablesOfBoth s h ++ (backAreas s h ++ grainAreas s h))
 unfolding areas frontAreas headAreas directoryAreas tablesOfBoth backAreas
 areas-grouped s h =
-    regroup (headerArea h) (descriptorArea h) (directoryArea h) (redundantArea h) (primaryTables s h) (redundantTables s h) (footerArea s h) (lastArea s h) (grainAreas s h)
+    regroup (headerArea h) (descriptorArea h) (directoryArea h) (redundantArea h) (primaryTables s h) (redundantTables s h)
+    (footerArea s h) (lastArea s h) (grainAreas s h)
 
 module _ (s : List ℕ) (h : Header) (i : InFile s h) where
   groups : Inside s h
   groups = groups-in s h (i .inside)
 
+  directory-in : h .directory + h .«directory_sectors» ≤ fileSectors s
+  directory-in = one-in (fileSectors s) _ [] (groups .directory) .0
+
   pub fixed-ends : length s < 2 ^ 64 → Ends h
   fixed-ends fit =
       record {
         descriptor = λ t. omega (arith, there-in (fileSectors s) _ _ (groups .descriptor) t);
-        directory = omega (arith, one-in (fileSectors s) _ [] (groups .directory) .0);
+        directory = omega (arith, directory-in);
         redundant = λ t. omega (arith, there-in (fileSectors s) _ _ (groups .redundant) t);
       }
 
@@ -49,50 +57,51 @@ module _ (s : List ℕ) (h : Header) (i : InFile s h) where
   some-table : 1 ≤ h .«table_sectors»
   some-table = omega (arith, i .sound .some, i .sound .table)
 
-  module _ (n : ℕ) (e : n ≡ entriesOf h) where
+  module _ (n : ℕ) (e : n ≡ directoryEntriesOf h) where
     pub tables-listed : Listed s (leastSector (h .«one_is_zero»)) false (h .«table_sectors») (h .directory) n
     tables-listed =
         record {
           some = some-table;
-          read = omega (arith, i .sound .directory, one-in (fileSectors s) _ [] (groups .directory) .0);
+          read = omega (arith, i .sound .directory, directory-in);
           inside = rw (tables-named s (h .«one_is_zero») _ refl (h .«table_sectors») (h .directory) n, e) (groups .tables);
         }
 
     module _ (there : h .redundant ≡ 0 → ⊥) where
       pub copies-listed : Listed s (leastSector (h .«one_is_zero»)) false (h .«table_sectors») (h .redundant) n
-      unfolding redundantTables pick
       copies-listed =
           record {
             some = some-table;
-            read = omega (arith, i .sound .directory, there-in (fileSectors s) _ _ (groups .redundant) (ap not (ne-eqb _ 0 there)));
+            read = omega (arith, i .sound .directory, redundant-in (fileSectors s) h (groups .redundant) there);
             inside =
                 rw (tables-named s (h .«one_is_zero») _ refl (h .«table_sectors») (h .redundant) n, e)
-                (rw (ne-eqb (h .redundant) 0 there) at (groups .copies));
+                (rw (redundant-tables s h there) at (groups .copies));
           }
 
   -- ---- grains
-  -- a directory entry whose first grain is one is in use
-  entry-used : (d : ℕ) → d * h .«entries_per_table» < grainsOf h → d < entriesOf h
-  entry-used d l =
-      lt-of-mul-lt-mul-right (h .«entries_per_table»)
-      (omega (arith, entries-enough (h .capacity) (h .«grain_size») (i .sound .sizes .low) (h .«entries_per_table») (i .sound .some)))
-
   module _ (d : ℕ) (l : d * h .«entries_per_table» < grainsOf h) where
+    in-use : d < directoryEntriesOf h
+    in-use = table-used (h .capacity) (h .«grain_size») (i .sound .sizes .low) (h .«entries_per_table») (i .sound .some) d l
+
     entry-in : 512 * h .directory + 4 * d + 4 ≤ length s
-    entry-in = omega (arith, entry-used d l, i .sound .directory, one-in (fileSectors s) _ [] (groups .directory) .0)
+    entry-in = omega (arith, in-use, i .sound .directory, directory-in)
 
     module _ (hi : leastSector (h .«one_is_zero») ≤ entryAt s (h .directory) d) where
       table-in : entryAt s (h .directory) d + h .«table_sectors» ≤ fileSectors s
       unfolding grainSectors pick
       table-in =
           entry-ends s (leastSector (h .«one_is_zero»)) false (h .«table_sectors») (h .directory) d _ refl some-table
-          (entry-inside s _ _ _ _ _ d (tables-listed (entriesOf h) refl) (entry-used d l)) hi
+          (entry-inside s _ _ _ _ _ d (tables-listed (directoryEntriesOf h) refl) in-use) hi
 
       grain-in : (k : ℕ) → k < h .«entries_per_table» → d * h .«entries_per_table» + k < grainsOf h
-          → runsPast (fileSectors s) (entryArea s (leastSector (h .«one_is_zero»)) (h .packed) (h .«grain_size») (entryAt s (h .directory) d) k) ≡ false
+          → runsPast (fileSectors s) (entryArea s (leastSector (h .«one_is_zero»)) (h .packed) (h .«grain_size»)
+          (entryAt s (h .directory) d) k) ≡ false
       unfolding pick grainNamed
       grain-in k lt g =
-          rw (grain-at s (h .«one_is_zero») (h .packed) _ (h .«grain_size») (h .«entries_per_table») (h .directory) _ d refl refl k lt, le-ltb _ _ hi)
+          rw (
+            grain-at s (h .«one_is_zero») (h .packed) _ (h .«grain_size») (h .«entries_per_table») (h .directory) _ d refl
+                refl k lt,
+            le-ltb _ _ hi,
+          )
           at (rows-in (fileSectors s) (grainsOf h) (grainArea s h) (groups .grains) (d * h .«entries_per_table» + k) g)
 
   pub grained : (all : ℕ) → all ≡ ceil (h .capacity) (h .«grain_size»)
@@ -119,17 +128,19 @@ module _ (lo : ℕ) (s : List ℕ) (h : Header) (ws : List ℕ) where
   copies-none e = rw (eq-eqb (h .redundant) 0 e) done
 
   module _ (xs : List ℕ) (r : Bool) where
-    pub tables-run : (n : ℕ) → n ≡ entriesOf h → Run lo ws (tableAreas s (h .«one_is_zero») (h .«table_sectors») (h .directory) n) xs r
+    pub tables-run : (n : ℕ) → n ≡ directoryEntriesOf h
+        → Run lo ws (tableAreas s (h .«one_is_zero») (h .«table_sectors») (h .directory) n) xs r
         → Run lo ws (primaryTables s h) xs r
     tables-run n e g = rw e at g
 
-    pub copies-some : (n : ℕ) → (h .redundant ≡ 0 → ⊥) → n ≡ entriesOf h
-        → Run lo ws (tableAreas s (h .«one_is_zero») (h .«table_sectors») (h .redundant) n) xs r → Run lo ws (redundantTables s h) xs r
-    unfolding redundantTables pick
-    copies-some n there e g = rw (ne-eqb (h .redundant) 0 there, ← e) g
+    pub copies-some : (n : ℕ) → (h .redundant ≡ 0 → ⊥) → n ≡ directoryEntriesOf h
+        → Run lo ws (tableAreas s (h .«one_is_zero») (h .«table_sectors») (h .redundant) n) xs r
+        → Run lo ws (redundantTables s h) xs r
+    copies-some n there e g = rw (redundant-tables s h there, ← e) g
 
     pub grains-run : (all : ℕ) → all ≡ ceil (h .capacity) (h .«grain_size»)
-        → Run lo ws (rows all (grainNamed s (h .«one_is_zero») (h .packed) (h .«grain_size») (h .«entries_per_table») (h .directory))) xs r
+        → Run lo ws (rows all (grainNamed s (h .«one_is_zero») (h .packed) (h .«grain_size») (h .«entries_per_table»)
+        (h .directory))) xs r
         → Run lo ws (grainAreas s h) xs r
     unfolding grains grainNamed
     grains-run all e g = rw e at g
@@ -139,7 +150,8 @@ module _ (lo : ℕ) (s : List ℕ) (h : Header) (ws : List ℕ) where
       unfolding backAreas
       back-stop t = run-stop _ (rw e at g) t
 
-      pub back-all : (b : ℕ) (ys : List ℕ) (q : Bool) → r ≡ false → b ≡ fileSectors s - 1 → Run lo xs (ifThere (h .footer) (area b 1)) ys q
+      pub back-all : (b : ℕ) (ys : List ℕ) (q : Bool) → r ≡ false → b ≡ fileSectors s - 1
+          → Run lo xs (ifThere (h .footer) (area b 1)) ys q
           → Run lo ws (backAreas s h) ys q
       unfolding backAreas
       back-all b ys q t f k = run-more (rw e at g) t (rw f at k)

@@ -25,7 +25,8 @@ module _ {lo : ℕ} where
   run-more (met t) e h = absurd (true≢false e)
 
   -- one that met a marked sector is one of any longer list
-  pub run-stop : {ws xs : List ℕ} {l : List Area} {q : Bool} (m : List Area) → Run lo ws l xs q → q ≡ true → Run lo ws (l ++ m) xs true
+  pub run-stop : {ws xs : List ℕ} {l : List Area} {q : Bool} (m : List Area) → Run lo ws l xs q → q ≡ true
+      → Run lo ws (l ++ m) xs true
   run-stop m done e = absurd (false≢true e)
   run-stop m (next f p g) e = next f p (run-stop m g e)
   run-stop m (met t) e = met t
@@ -43,7 +44,8 @@ module _ (lo first count from end : ℕ) (ws : List ℕ) (f : from ≡ clip lo w
   run-one xs true k = next (k .was-free refl) (k .now-put refl) done
   run-one xs false k = rw (k .unchanged refl) (met (k .was-taken refl))
 
-  pub run-clip : (xs : List ℕ) (m : Bool) → Marking ws xs from (from + (end - from)) m → Run lo ws (area first count ∷ []) xs (not m)
+  pub run-clip : (xs : List ℕ) (m : Bool) → Marking ws xs from (from + (end - from)) m
+      → Run lo ws (area first count ∷ []) xs (not m)
   run-clip xs m k =
       let span : from + (end - from) ≡ clip lo ws (first + count) = omega arith in
       run-one xs m (rw (span, f) at k)
@@ -57,7 +59,8 @@ module _ (lo first count : ℕ) (ws : List ℕ) where
   run-after h = run-outside lo first count _ _ ws refl refl (omega arith)
 
 -- ---- an area that an image may have
-pub there-ends : (there : Bool) (first count : ℕ) → (there ≡ true → first + count < 2 ^ 64) → there ≡ true → first + count < 2 ^ 64
+pub there-ends : (there : Bool) (first count : ℕ) → (there ≡ true → first + count < 2 ^ 64) → there ≡ true → first + count
+    < 2 ^ 64
 there-ends there first count f t = f t
 
 module _ (lo : ℕ) (there : Bool) (a : Area) (ws : List ℕ) where

@@ -27,9 +27,16 @@ module _ (lo : ℕ) where
       ⊎-elim
       (λ u. omega (arith, p .under i (omega arith), st i b, holds-under a (lo + i) u))
       (λ l. ⊎-elim
-      (λ u. omega (arith, p .inside i (omega arith) (omega arith), f i (omega arith) (omega arith), st i b, holds-in a (lo + i) l u))
+      (λ u. omega (
+        arith,
+        p .inside i (omega arith) (omega arith),
+        f i (omega arith) (omega arith),
+        st i b,
+        holds-in a
+            (lo + i) l u,
+      ))
       (λ o. omega (arith, p .over i (omega arith), st i b, holds-over a (lo + i) o))
-      (lt-or-ge (lo + i) (a .first + a .count)))
+      (lt-or-ge (lo + i) (a .first + a .sectorCount)))
       (lt-or-ge (lo + i) (a .first))
 
   run-free : (seen : List Area) {ws ys : List ℕ} {l : List Area} {r : Bool} → Run lo ws l ys r → r ≡ false → Stands ws lo seen

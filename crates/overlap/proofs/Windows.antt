@@ -33,4 +33,5 @@ pub clear-end : (s : List ℕ) (h : Header) (f lo : ℕ) → Clear (areas s h) l
     → false ≡ meet (areas s h)
 clear-end s h f lo k le q i =
     sym (apart-meet (areas s h) (λ x.
-    ⊎-elim (λ b. k .below x b) (λ a. omega (arith, past-none (fileSectors s) (areas s h) (i .inside) x (omega arith))) (lt-or-ge x lo)))
+    ⊎-elim (λ b. k .below x b) (λ a. omega (arith, past-none (fileSectors s) (areas s h) (i .inside) x (omega arith)))
+    (lt-or-ge x lo)))

@@ -5,7 +5,7 @@ use mathlib.Core.Bool.{Bool}
 use lib.Dec.{ltb}
 use Rattle.base.specs.Pick.{pick}
 use Rattle.base.specs.Rows.{rows}
-use Rattle.format.specs.Entries.{entryAt, grainSectors, entryOf}
+use Rattle.format.specs.Entries.{entryAt, grainSectors, entryOfGrain}
 use Rattle.format.specs.Areas.{Area, area, named}
 
 -- the lowest entry that is a sector
@@ -29,4 +29,4 @@ tableGrains s least packed size directory d n =
 -- grain g of the directory at a sector
 unfoldable pub grainNamed : List ℕ → Bool → Bool → ℕ → ℕ → ℕ → ℕ → List Area
 grainNamed s oneIsZero packed size perTable directory g =
-    named (grainSectors s packed size) (entryOf s oneIsZero perTable directory g)
+    named (grainSectors s packed size) (entryOfGrain s oneIsZero perTable directory g)

@@ -1,5 +1,5 @@
--- What was judged before sectors are marked, refusals 1 to 9, and what that says to each part of the walk: no area's end wraps, and
--- what is read lies in the file.
+-- What was judged before sectors are marked, refusals 1 to 9, and what that says to each part of the walk: no area's end
+-- wraps, and what is read lies in the file.
 use Prim.Native.Nat.{ℕ, _+_, _*_, _-_, _^_, _≤_, _<_, min}
 use mathlib.Core.Path.{_≡_}
 use mathlib.Core.List.{List, _++_}
@@ -8,7 +8,8 @@ use lib.Dec.{eqb}
 use lib.ListN.{length}
 use Rattle.format.specs.Geometry.{fileSectors}
 use Rattle.format.specs.Entries.{entryAt}
-use Rattle.format.specs.Areas.{Area, headerArea, descriptorArea, directoryArea, redundantArea, primaryTables, redundantTables, footerArea, lastArea, areas, runsPast}
+use Rattle.format.specs.Areas.{Area, headerArea, descriptorArea, directoryArea, redundantArea, primaryTables, redundantTables}
+use Rattle.format.specs.Areas.{footerArea, lastArea, areas, runsPast}
 use Rattle.format.specs.declared.Header.{Header}
 use Rattle.header.specs.Sized.{Sound}
 use Rattle.overlap.specs.Named.{leastSector, entryAreas}
@@ -36,7 +37,8 @@ backAreas s h = footerArea s h ++ lastArea s h
 
 -- ---- what marking them asks
 pub record Ends (h : Header) : Type 0 where
-  pub descriptor : (not (eqb (h .descriptor) 0) && not (eqb (h .«descriptor_sectors») 0)) ≡ true → h .descriptor + h .«descriptor_sectors» < 2 ^ 64
+  pub descriptor : (not (eqb (h .descriptor) 0) && not (eqb (h .«descriptor_sectors») 0)) ≡ true → h .descriptor
+      + h .«descriptor_sectors» < 2 ^ 64
   pub directory : h .directory + h .«directory_sectors» < 2 ^ 64
   pub redundant : not (eqb (h .redundant) 0) ≡ true → h .redundant + h .«directory_sectors» < 2 ^ 64
 

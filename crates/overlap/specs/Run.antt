@@ -16,9 +16,10 @@ abbrev pub low : ℕ → List ℕ → Area → ℕ
 low lo ws a = clip lo ws (a .first)
 
 abbrev pub high : ℕ → List ℕ → Area → ℕ
-high lo ws a = clip lo ws (a .first + a .count)
+high lo ws a = clip lo ws (a .first + a .sectorCount)
 
--- marking the areas turns the words ws into ys. r is true if one met a sector that was marked: it and those after it are not marked
+-- marking the areas turns the words ws into ys. r is true if one met a sector that was marked: it and those after it are not
+-- marked
 pub data Run (lo : ℕ) : List ℕ → List Area → List ℕ → Bool → Type 0 where
   done : {ws : List ℕ} → Run lo ws [] ws false
   next : {ws xs ys : List ℕ} {a : Area} {l : List Area} {r : Bool}

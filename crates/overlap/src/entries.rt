@@ -1,7 +1,7 @@
 // Marking what the entries of directories and tables name.
 ghost use mathlib.Core.Path.{_≡_};
 ghost use mathlib.Core.Bool.{false};
-ghost use Prim.Native.Nat.{_+_, _*_, _-_, _≤_, min};
+ghost use Prim.Native.Nat.{_+_, _*_, _≤_};
 ghost use lib.ListN.{length};
 ghost use Rattle.base.specs.Rows.{rows};
 ghost use Rattle.format.specs.Geometry.{fileSectors};
@@ -11,6 +11,7 @@ ghost use Rattle.overlap.specs.Run.{Run, Counted};
 ghost use Rattle.overlap.specs.Named.{leastSector, entryArea, entryAreas, tableGrains, grainNamed};
 ghost use Rattle.overlap.specs.Placed.{Listed, Grained};
 use super::window::mark_area;
+use header::sizes::entries_in_use;
 use lookup::entries::entry_at;
 use lookup::entries::grain_sectors;
 
@@ -22,12 +23,6 @@ fn least_sector(one_is_zero: bool) -> u64
         return 2;
     }
     1
-}
-
-fn smaller(a: u64, b: u64) -> u64
-    ensures { λ r. ⌜ r ≡ min a b ⌝ }
-{
-    if a <= b { a } else { b }
 }
 
 // Marks what entry k of the directory or table at sector t names.
@@ -43,7 +38,8 @@ fn mark_entry(
 ) -> bool
     requires { ⌜ Counted (now words) × (512 * t + 4 * k + 4 ≤ length (now image)) × (1 ≤ size) ⌝ }
     requires { ⌜ runsPast (fileSectors (now image)) (entryArea (now image) least packed size t k) ≡ false ⌝ }
-    ensures { λ r. ⌜ Run lo (now (words .entry)) (entryArea (now (image .entry)) least packed size t k) (now (words .exit)) r ⌝ }
+    ensures { λ r.
+        ⌜ Run lo (now (words .entry)) (entryArea (now (image .entry)) least packed size t k) (now (words .exit)) r ⌝ }
 {
     let e = entry_at(image, t, k);
     if e < least {
@@ -65,7 +61,8 @@ fn mark_entries(
     n: u64,
 ) -> bool
     requires { ⌜ Counted (now words) × Listed (now image) least packed size t n ⌝ }
-    ensures { λ r. ⌜ Run lo (now (words .entry)) (entryAreas (now (image .entry)) least packed size t n) (now (words .exit)) r ⌝ }
+    ensures { λ r.
+        ⌜ Run lo (now (words .entry)) (entryAreas (now (image .entry)) least packed size t n) (now (words .exit)) r ⌝ }
 {
     let mut k: u64 = 0;
     while k < n {
@@ -88,7 +85,9 @@ pub fn mark_tables(
     n: u64,
 ) -> bool
     requires { ⌜ Counted (now words) × Listed (now image) (leastSector «one_is_zero») false sectors directory n ⌝ }
-    ensures { λ r. ⌜ Run lo (now (words .entry)) (tableAreas (now (image .entry)) «one_is_zero» sectors directory n) (now (words .exit)) r ⌝ }
+    ensures { λ r.
+        ⌜ Run lo (now (words .entry)) (tableAreas (now (image .entry)) «one_is_zero» sectors directory n) (now (words .exit))
+        r ⌝ }
 {
     let least = least_sector(one_is_zero);
     mark_entries(&mut *words, lo, image, least, false, sectors, directory, n)
@@ -107,8 +106,11 @@ fn mark_table_grains(
     n: u64,
 ) -> bool
     requires { ⌜ Counted (now words) × (512 * directory + 4 * d + 4 ≤ length (now image)) ⌝ }
-    requires { ⌜ (least ≤ entryAt (now image) directory d → Listed (now image) least packed size (entryAt (now image) directory d) n) ⌝ }
-    ensures { λ r. ⌜ Run lo (now (words .entry)) (tableGrains (now (image .entry)) least packed size directory d n) (now (words .exit)) r ⌝ }
+    requires { ⌜ (least ≤ entryAt (now image) directory d → Listed (now image) least packed size
+        (entryAt (now image) directory d) n) ⌝ }
+    ensures { λ r.
+        ⌜ Run lo (now (words .entry)) (tableGrains (now (image .entry)) least packed size directory d n)
+        (now (words .exit)) r ⌝ }
 {
     let t = entry_at(image, directory, d);
     if t < least {
@@ -130,7 +132,9 @@ pub fn mark_grains(
     all: u64,
 ) -> bool
     requires { ⌜ Counted (now words) × Grained (now image) «one_is_zero» packed size «per_table» directory all ⌝ }
-    ensures { λ r. ⌜ Run lo (now (words .entry)) (rows all (grainNamed (now (image .entry)) «one_is_zero» packed size «per_table» directory)) (now (words .exit)) r ⌝ }
+    ensures { λ r.
+        ⌜ Run lo (now (words .entry)) (rows all (grainNamed (now (image .entry)) «one_is_zero» packed size «per_table»
+        directory)) (now (words .exit)) r ⌝ }
 {
     let least = least_sector(one_is_zero);
     let mut d: u64 = 0;
@@ -145,7 +149,7 @@ pub fn mark_grains(
             size,
             directory,
             d,
-            smaller(per_table, all - base),
+            entries_in_use(per_table, all - base),
         ) {
             return true;
         }

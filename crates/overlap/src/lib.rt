@@ -2,12 +2,13 @@
 ghost use mathlib.Core.Path.{_≡_};
 ghost use Prim.Native.Nat.{_-_};
 ghost use Rattle.format.specs.Geometry.{fileSectors};
-ghost use Rattle.format.specs.Header.{entriesOf};
+ghost use Rattle.format.specs.Header.{directoryEntriesOf};
 ghost use Rattle.format.specs.Areas.{redundantTables, grainAreas, areas, meet};
 ghost use Rattle.overlap.specs.Run.{Run, Counted, Window};
 ghost use Rattle.overlap.specs.Placed.{InFile, headAreas, directoryAreas, frontAreas, tablesOfBoth, backAreas, Ends};
 use format::Header;
 use header::sizes::directory_entries;
+use header::sizes::grains_of;
 use lookup::entries::file_sectors;
 
 mod entries;
@@ -66,7 +67,7 @@ fn mark_front(words: &mut [u64], lo: u64, h: Header) -> bool
 
 // Marks the tables of the redundant directory, if there is one.
 fn mark_copies(words: &mut [u64], lo: u64, image: &[u8], h: Header, n: u64) -> bool
-    requires { ⌜ Counted (now words) × InFile (now image) h × (n ≡ entriesOf h) ⌝ }
+    requires { ⌜ Counted (now words) × InFile (now image) h × (n ≡ directoryEntriesOf h) ⌝ }
     ensures { λ r. ⌜ Run lo (now (words .entry)) (redundantTables (now (image .entry)) h) (now (words .exit)) r ⌝ }
 {
     if h.redundant == 0 {
@@ -130,7 +131,7 @@ fn mark_all_grains(words: &mut [u64], lo: u64, image: &[u8], h: Header) -> bool
     requires { ⌜ Counted (now words) × InFile (now image) h ⌝ }
     ensures { λ r. ⌜ Run lo (now (words .entry)) (grainAreas (now (image .entry)) h) (now (words .exit)) r ⌝ }
 {
-    let all = base::ceil_div(h.capacity, h.grain_size);
+    let all = grains_of(h.capacity, h.grain_size);
     mark_grains(
         &mut *words,
         lo,

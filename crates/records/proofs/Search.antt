@@ -1,6 +1,6 @@
 -- What a search for a sector has found, by the record that it has come to; and whether a record holds a sector.
-use Prim.Native.Nat.{ℕ, suc, _+_, _-_, _≤_, _<_}
-use mathlib.Core.Path.{_≡_, refl, ap, _∙_, sym}
+use Prim.Native.Nat.{ℕ, _+_, _-_, _≤_, _<_}
+use mathlib.Core.Path.{_≡_, refl, ap, _∙_}
 use mathlib.Core.Bool.{Bool, true, false, not}
 use mathlib.Core.List.{List}
 use native.Mathlib.Omega.{arith}
@@ -19,7 +19,8 @@ use Rattle.descriptor.specs.Records.{holding, foundAt, notFound, foundFrom}
 -- ---- one record
 module _ (e : Extent) (sector : ℕ) where
   pub held : e .first ≤ sector → ltb (sector - e .first) (e .sectors) ≡ holding e sector
-  held h = rw (le-leb _ _ h) (same-lt (sector - e .first) (e .sectors) sector (e .first + e .sectors) (λ l. omega arith) (λ l. omega arith))
+  held h = rw (le-leb _ _ h) (same-lt (sector - e .first) (e .sectors) sector (e .first + e .sectors) (λ l. omega arith)
+      (λ l. omega arith))
 
   pub not-held : sector < e .first → false ≡ holding e sector
   not-held h = rw (lt-leb _ _ h)
@@ -36,7 +37,8 @@ pick-no true a b h = absurd h
 pick-no false a b h = refl
 
 module _ (ys : List Extent) (i s : ℕ) where
-  here : i < length ys → foundFrom (drop i ys) i s ≡ pick (holding (getD ys i noExtent) s) (foundAt i) (foundFrom (drop (i + 1) ys) (i + 1) s)
+  here : i < length ys → foundFrom (drop i ys) i s
+      ≡ pick (holding (getD ys i noExtent) s) (foundAt i) (foundFrom (drop (i + 1) ys) (i + 1) s)
   unfolding foundFrom
   here l = simp (drop-cons ys i noExtent l, add-one)
 
@@ -45,7 +47,8 @@ module _ (ys : List Extent) (i s : ℕ) where
   found-hit l h = here l ∙ pick-yes _ _ _ h
 
   -- it does not: the search goes on
-  pub found-pass : i < length ys → T (not (holding (getD ys i noExtent) s)) → foundFrom (drop i ys) i s ≡ foundFrom (drop (i + 1) ys) (i + 1) s
+  pub found-pass : i < length ys → T (not (holding (getD ys i noExtent) s)) → foundFrom (drop i ys) i s
+      ≡ foundFrom (drop (i + 1) ys) (i + 1) s
   found-pass l h = here l ∙ pick-no _ _ _ h
 
   -- there is no record i

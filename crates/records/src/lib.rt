@@ -1,5 +1,5 @@
-// The descriptor's two calls: a text is read and its extents are handed over in a lent list of records; and the record of such a
-// list that holds a sector is found. The functions over the list are few and thin.
+// The descriptor's two calls: a text is read and its extents are handed over in a lent list of records; and the record of such
+// a list that holds a sector is found. The functions over the list are few and thin.
 ghost use mathlib.Core.Path.{_≡_};
 ghost use Prim.Native.Nat.{_<_};
 ghost use lib.ListN.{getD};

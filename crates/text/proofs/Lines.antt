@@ -1,4 +1,5 @@
--- Laws of a text's lines, as the loop goes through them: what is left says the same as the whole. Premises are what the code knows there.
+-- Laws of a text's lines, as the loop goes through them: what is left says the same as the whole. Premises are what the code
+-- knows there.
 use Prim.Native.Nat.{ℕ, suc, _+_, _<_, _≤_}
 use mathlib.Core.Path.{_≡_, sym, ap, _∙_}
 use mathlib.Core.List.{List, [], _∷_}
@@ -15,7 +16,7 @@ use Rattle.base.specs.Pick.{pick}
 use Rattle.base.proofs.Steps.{lt-or-ge}
 use Rattle.descriptor.specs.declared.State.{State}
 use Rattle.descriptor.specs.declared.Stop.the-variants.{Byte}
-use Rattle.descriptor.specs.Words.{until}
+use Rattle.descriptor.specs.Words.{countBefore}
 use Rattle.descriptor.specs.Text.{Span, linesFrom, lines}
 use Rattle.descriptor.specs.Descriptor.{start, step, ended, judged}
 
@@ -39,30 +40,33 @@ behind from at x n w false r =
 
 lines-first : (from at : ℕ) (w : List ℕ)
     → linesFrom from at w
-    ≡ withLine from (at + until (Byte 0x0a) w) (eqb (until (Byte 0x0a) w) (length w)) (drop (until (Byte 0x0a) w + 1) w)
-unfolding linesFrom until pick
+    ≡ withLine from (at + countBefore (Byte 0x0a) w) (eqb (countBefore (Byte 0x0a) w) (length w))
+    (drop (countBefore (Byte 0x0a) w + 1) w)
+unfolding linesFrom countBefore pick
 lines-first from at [] = simp add-zero
-lines-first from at (x ∷ w) = behind from at x (until (Byte 0x0a) w) w (eqb x 0x0a) (lines-first from (at + 1) w)
+lines-first from at (x ∷ w) = behind from at x (countBefore (Byte 0x0a) w) w (eqb x 0x0a) (lines-first from (at + 1) w)
 
 -- the lines from a place on, where a line begins; past the text's end there are none
 unfoldable pub linesAt : List ℕ → ℕ → List Span
 linesAt text from = pick (ltb (length text) from) [] (linesFrom from from (drop from text))
 
-module _ (text : List ℕ) (from to : ℕ) (h : from ≤ length text) (e : to ≡ from + until (Byte 0x0a) (drop from text)) (k : to ≤ length text) where
+module _ (text : List ℕ) (from to : ℕ) (h : from ≤ length text) (e : to ≡ from + countBefore (Byte 0x0a) (drop from text))
+    (k : to ≤ length text) where
   -- the line ends with the text exactly where the next one would begin past its end
-  is-last : eqb (until (Byte 0x0a) (drop from text)) (length (drop from text)) ≡ ltb (length text) (to + 1)
+  is-last : eqb (countBefore (Byte 0x0a) (drop from text)) (length (drop from text)) ≡ ltb (length text) (to + 1)
   is-last =
       let l = length-drop from text in
       ⊎-elim
-      (λ p. eq-eqb (until (Byte 0x0a) (drop from text)) (length (drop from text)) (omega arith) ∙ sym (lt-ltb _ _ p))
-      (λ p. ne-eqb (until (Byte 0x0a) (drop from text)) (length (drop from text)) (λ q. omega arith) ∙ sym (le-ltb _ _ p))
+      (λ p. eq-eqb (countBefore (Byte 0x0a) (drop from text)) (length (drop from text)) (omega arith) ∙ sym (lt-ltb _ _ p))
+      (λ p. ne-eqb (countBefore (Byte 0x0a) (drop from text)) (length (drop from text)) (λ q. omega arith) ∙ sym (le-ltb _ _ p))
       (lt-or-ge (length text) (to + 1))
 
   lines-more : linesAt text from ≡ record { from = from; to = to } ∷ linesAt text (to + 1)
   unfolding linesAt pick
   lines-more =
-      let i : from + (until (Byte 0x0a) (drop from text) + 1) ≡ to + 1 = omega arith in
-      let g : drop (until (Byte 0x0a) (drop from text) + 1) (drop from text) ≡ drop (to + 1) text = drop-drop _ from text ∙ ap (λ (n : ℕ). drop n text) i in
+      let i : from + (countBefore (Byte 0x0a) (drop from text) + 1) ≡ to + 1 = omega arith in
+      let g : drop (countBefore (Byte 0x0a) (drop from text) + 1) (drop from text) ≡ drop (to + 1) text =
+      drop-drop _ from text ∙ ap (λ (n : ℕ). drop n text) i in
       rw (le-ltb _ _ h, lines-first from from (drop from text), is-last, g, ← e)
 
 -- ---- the loop
@@ -74,7 +78,8 @@ module _ (text : List ℕ) (st : State) (from : ℕ) where
   unfolding linesAt pick
   left-start e z = rw (e, z, le-ltb (length text) 0 (omega arith))
 
-  module _ (to : ℕ) (s : State) (l : Left) (h : from ≤ length text) (e : to ≡ from + until (Byte 0x0a) (drop from text)) (k : to ≤ length text) (q : s ≡ step text st (record { from = from; to = to })) where
+  module _ (to : ℕ) (s : State) (l : Left) (h : from ≤ length text) (e : to ≡ from + countBefore (Byte 0x0a) (drop from text))
+      (k : to ≤ length text) (q : s ≡ step text st (record { from = from; to = to })) where
     left-step : judged text start (lines text) ≡ pick (eqb (s .number) 0) (judged text s (linesAt text (to + 1))) s
     unfolding judged
     left-step = l ∙ rw (lines-more text from to h e k, ← q)

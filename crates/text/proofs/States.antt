@@ -15,7 +15,8 @@ use Rattle.text.specs.Bounds.{Few}
 
 -- ---- a line that says something is skipped first, then what it says is put down
 module _ (s st : State) (q : s ≡ skipped st) where
-  pub opened-as : state (s .number) (s .place) (s .line) true (s .extents) (s .sum) (s .records) (s .values) (s .lengths) ≡ opened st
+  pub opened-as : state (s .number) (s .place) (s .line) true (s .extents) (s .sum) (s .records) (s .values) (s .lengths)
+      ≡ opened st
   unfolding skipped opened
   opened-as = rw q
 
@@ -25,7 +26,8 @@ module _ (s st : State) (q : s ≡ skipped st) where
   counted = rw q
 
   pub noted-as : (key value valueLength : ℕ)
-      → state (s .number) (s .place) (s .line) (s .begun) (s .extents) (s .sum) (s .records) (set (s .values) key value) (set (s .lengths) key valueLength)
+      → state (s .number) (s .place) (s .line) (s .begun) (s .extents) (s .sum) (s .records) (set (s .values) key value)
+      (set (s .lengths) key valueLength)
       ≡ noted key value valueLength st
   unfolding skipped noted
   noted-as key value valueLength = rw q
@@ -34,7 +36,8 @@ module _ (s st : State) (q : s ≡ skipped st) where
     -- with the records given
     abbrev filled : List Extent → State
     filled records =
-        state (s .number) (s .place) (s .line) (s .begun) (st .extents + 1) (st .sum + e .sectors) records (s .values) (s .lengths)
+        state (s .number) (s .place) (s .line) (s .begun) (st .extents + 1) (st .sum + e .sectors) records (s .values)
+        (s .lengths)
 
     pub added-as : filled (set (s .records) (st .extents) e) ≡ added e st
     unfolding skipped added
@@ -54,7 +57,13 @@ module _ (s st : State) (q : s ≡ skipped st) where
         → length records ≡ 32
         → Few (st .line + 1) (filled records)
     added-few records h c t l =
-        record { lines = omega (arith, counted); count = omega (arith, counted); total = omega (arith, counted); slots = l }
+        record {
+          lines = omega (arith, counted);
+          extentCount = omega (arith, counted);
+          total = omega (arith, counted);
+          slots =
+              l;
+        }
 
 pub set-slots : (records : List Extent) (at : ℕ) (e : Extent) → length records ≡ 32 → length (set records at e) ≡ 32
 set-slots records at e l = length-set records at e ∙ l

@@ -7,6 +7,6 @@ use Rattle.descriptor.specs.declared.State.{State}
 -- at most `most` lines were met, each of them at most one extent of at most 2^31 sectors; there is room for 32 records
 pub record Few (most : ℕ) (st : State) : Type 0 where
   pub lines : st .line ≤ most
-  pub count : st .extents ≤ st .line
+  pub extentCount : st .extents ≤ st .line
   pub total : st .sum ≤ 0x80000000 * st .line
   pub slots : length (st .records) ≡ 32

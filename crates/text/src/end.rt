@@ -1,6 +1,6 @@
 // The end of a text: what only all lines together can tell.
 ghost use mathlib.Core.Path.{_≡_};
-ghost use Rattle.descriptor.specs.Descriptor.{missing, extentsBad, complete, ended};
+ghost use Rattle.descriptor.specs.Descriptor.{missing, extentsBad, judgedEnd, ended};
 ghost use Rattle.text.specs.Bounds.{Few};
 use super::state::refused;
 use descriptor::State;
@@ -9,9 +9,9 @@ use descriptor::State;
 fn missing(st: State) -> bool
     ensures { λ r. ⌜ r ≡ missing (st .values) ⌝ }
 {
-    (st.values[1] == words::NONE)
-        | ((st.values[2] == words::NONE)
-            | ((st.values[3] == words::NONE) | (st.values[4] == words::NONE)))
+    (st.values[1] == words::NO_VALUE)
+        | ((st.values[2] == words::NO_VALUE)
+            | ((st.values[3] == words::NO_VALUE) | (st.values[4] == words::NO_VALUE)))
 }
 
 // No extent, over 32, or a sum above 2^31.
@@ -22,9 +22,9 @@ fn extents_bad(st: State) -> bool
 }
 
 // Missing keys are judged before the extents' number and sum.
-fn complete(st: State) -> State
+fn judged_end(st: State) -> State
     requires { ⌜ Few 65537 st ⌝ }
-    ensures { λ r. ⌜ r ≡ complete st ⌝ }
+    ensures { λ r. ⌜ r ≡ judgedEnd st ⌝ }
 {
     if missing(st) {
         return refused(33, 0, st);
@@ -41,7 +41,7 @@ pub fn ended(st: State) -> State
     ensures { λ r. ⌜ r ≡ ended st ⌝ }
 {
     if st.begun {
-        return complete(st);
+        return judged_end(st);
     }
     refused(30, 0, st)
 }

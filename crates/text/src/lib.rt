@@ -1,5 +1,5 @@
-// What a descriptor's whole text says: its lines, judged one after the other up to the first that is at fault. Functions have the
-// names of their definitions in the crate `descriptor`.
+// What a descriptor's whole text says: its lines, judged one after the other up to the first that is at fault. Functions have
+// the names of their definitions in the crate `descriptor`.
 ghost use mathlib.Core.Path.{_≡_};
 ghost use Prim.Native.Nat.{_+_, _≤_};
 ghost use lib.ListN.{length};
@@ -79,7 +79,8 @@ fn refused_first(number: u64) -> State
     state::refused(number, 0, state::start())
 }
 
-// The text is all of the `size` bytes up to the first zero byte; of the `left` bytes from there on, `zeros` are zero before another.
+// The text is all of the `size` bytes up to the first zero byte; of the `left` bytes from there on, `zeros` are zero before
+// another.
 fn judged_text(size: usize, zeros: usize, left: usize, text: &[u8]) -> State
     requires { ⌜ length (now text) ≤ size ⌝ }
     ensures { λ r. ⌜ r ≡ judgedText size zeros left (now (text .entry)) ⌝ }
@@ -101,7 +102,7 @@ fn read_text(s: &[u8]) -> State
     let text = words::before(s, Stop::Byte(0));
     judged_text(
         s.len(),
-        words::until(tail, Stop::NotByte(0)),
+        words::count_before(tail, Stop::NotByte(0)),
         tail.len(),
         text,
     )

@@ -107,7 +107,7 @@ fn once(key: u64, value: u64, length: u64, st: State) -> State
 {
     let at = key as usize;
     let old = st.values[at];
-    if old == words::NONE {
+    if old == words::NO_VALUE {
         return noted(key, value, length, st);
     }
     refused(33, st.line + 1, st)

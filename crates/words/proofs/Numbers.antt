@@ -12,29 +12,30 @@ use mir.Syntax.{w64}
 use mir.Val.{Fits}
 use borrow.Author.Tests.{lt-ltb, le-ltb}
 use Rattle.base.specs.Pick.{pick}
-use Rattle.descriptor.specs.Words.{worth, none, digits}
+use Rattle.descriptor.specs.Words.{digitValue, noValue, numeralFrom}
 
 -- ---- from the byte i on, n being what the digits before it make
 module _ (base : ℕ) (w : List ℕ) (n i : ℕ) where
   abbrev pub Digits : Type 0
-  Digits = digits base 0 w ≡ digits base n (drop i w)
+  Digits = numeralFrom base 0 w ≡ numeralFrom base n (drop i w)
 
   digits-step : i < length w
-      → digits base n (drop i w) ≡ pick (ltb (worth (getD w i 0)) base) (digits base (base * n + worth (getD w i 0)) (drop (i + 1) w)) none
-  unfolding digits
+      → numeralFrom base n (drop i w) ≡ pick (ltb (digitValue (getD w i 0)) base)
+      (numeralFrom base (base * n + digitValue (getD w i 0)) (drop (i + 1) w)) noValue
+  unfolding numeralFrom
   digits-step h = simp (drop-cons w i 0 h, add-one)
 
-  module _ (d : ℕ) (e : d ≡ worth (getD w i 0)) (l : Digits) (h : i < length w) where
-    pub digits-bad : base ≤ d → none ≡ digits base 0 w
+  module _ (d : ℕ) (e : d ≡ digitValue (getD w i 0)) (l : Digits) (h : i < length w) where
+    pub digits-bad : base ≤ d → noValue ≡ numeralFrom base 0 w
     unfolding pick
     digits-bad b = rw (l, digits-step h, ← e, le-ltb d base b)
 
-    pub digits-more : d < base → digits base 0 w ≡ digits base (base * n + d) (drop (i + 1) w)
+    pub digits-more : d < base → numeralFrom base 0 w ≡ numeralFrom base (base * n + d) (drop (i + 1) w)
     unfolding pick
     digits-more b = l ∙ rw (digits-step h, ← e, lt-ltb d base b)
 
-  pub digits-all : Digits → length w ≤ i → n ≡ digits base 0 w
-  unfolding digits
+  pub digits-all : Digits → length w ≤ i → n ≡ numeralFrom base 0 w
+  unfolding numeralFrom
   digits-all l h = rw (l, drop-of-length-le w h)
 
 -- ---- room

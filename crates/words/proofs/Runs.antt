@@ -1,4 +1,5 @@
--- Laws of runs of bytes, as loops go through them: what is left says the same as the whole. Premises are what the code knows there.
+-- Laws of runs of bytes, as loops go through them: what is left says the same as the whole. Premises are what the code knows
+-- there.
 use Prim.Native.Nat.{ℕ, suc, _+_, _-_, _<_, _≤_}
 use mathlib.Core.Path.{_≡_, sym, ap, _∙_}
 use mathlib.Core.List.{List}
@@ -11,7 +12,7 @@ use lib.Seq.{drop-cons}
 use Rattle.base.specs.Pick.{pick}
 use Rattle.descriptor.specs.declared.Stop.{Stop}
 use Rattle.descriptor.specs.declared.Stop.the-variants.{NotTrimmed}
-use Rattle.descriptor.specs.Words.{stops, until, kept}
+use Rattle.descriptor.specs.Words.{stops, countBefore, kept}
 
 -- at an arm of a match: what is known of the enum, put where the enum stands
 pub stops-as : (z : Bool) (r v : Stop) (x : ℕ) → r ≡ v → z ≡ stops v x → z ≡ stops r x
@@ -20,23 +21,24 @@ stops-as z r v x e t = t ∙ ap (λ (s : Stop). stops s x) (sym e)
 -- ---- from the byte i on
 module _ (stop : Stop) (w : List ℕ) (i : ℕ) where
   abbrev pub Run : Type 0
-  Run = until stop w ≡ i + until stop (drop i w)
+  Run = countBefore stop w ≡ i + countBefore stop (drop i w)
 
-  run-step : i < length w → until stop (drop i w) ≡ pick (stops stop (getD w i 0)) 0 (until stop (drop (i + 1) w) + 1)
-  unfolding until
+  run-step : i < length w → countBefore stop (drop i w)
+      ≡ pick (stops stop (getD w i 0)) 0 (countBefore stop (drop (i + 1) w) + 1)
+  unfolding countBefore
   run-step h = simp (drop-cons w i 0 h, add-one)
 
   module _ {r : Bool} (l : Run) (h : i < length w) (e : r ≡ stops stop (getD w i 0)) where
-    pub run-here : r ≡ true → i ≡ until stop w
+    pub run-here : r ≡ true → i ≡ countBefore stop w
     unfolding pick
     run-here t = rw (l, run-step h, ← e, t, add-zero)
 
-    pub run-more : r ≡ false → until stop w ≡ (i + 1) + until stop (drop (i + 1) w)
+    pub run-more : r ≡ false → countBefore stop w ≡ (i + 1) + countBefore stop (drop (i + 1) w)
     unfolding pick
     run-more f = l ∙ rw (run-step h, ← e, f) (omega arith)
 
-  pub run-end : Run → length w ≤ i → i ≡ until stop w
-  unfolding until
+  pub run-end : Run → length w ≤ i → i ≡ countBefore stop w
+  unfolding countBefore
   run-end l h = rw (l, drop-of-length-le w h, add-zero)
 
 -- ---- the end, trimmed: of the first n bytes

@@ -4,12 +4,13 @@ ghost use mathlib.Core.Path.{_≡_};
 ghost use Prim.Native.Nat.{_+_, _≤_, _<_};
 ghost use lib.ListN.{length, getD, drop};
 ghost use Rattle.descriptor.specs.declared.Stop.the-variants.{Byte};
-ghost use Rattle.descriptor.specs.Words.{stops, until, before, rest, trimStart, kept, trimEnd, word, afterWord};
-ghost use Rattle.descriptor.specs.Words.{none, worth, digits, number, decimal, hex, closedAt, closed, quotedLength, afterQuoted};
+ghost use Rattle.descriptor.specs.Words.{stops, countBefore, before, rest, trimStart, kept, trimEnd, word, afterWord};
+ghost use Rattle.descriptor.specs.Words.{noValue, digitValue, numeralFrom, numeral, decimal, hex, toQuoteAt, toQuote};
+ghost use Rattle.descriptor.specs.Words.{quotedLength, afterQuoted};
 use descriptor::Stop;
 
-// No number: above all that 10 decimal or 8 hex digits can make.
-pub const NONE: u64 = 0x10000000000;
+// No value: no such number, no closing quote, a key that did not come.
+pub const NO_VALUE: u64 = 0x10000000000;
 
 // Whether a run of bytes stops at the byte x.
 fn stops(stop: Stop, x: u8) -> bool
@@ -25,8 +26,8 @@ fn stops(stop: Stop, x: u8) -> bool
 }
 
 // How many bytes stand before the first at which a run stops; all of them if it stops at none.
-pub fn until(w: &[u8], stop: Stop) -> usize
-    ensures { λ r. ⌜ (r ≡ until stop (now (w .entry))) × (r ≤ length (now (w .entry))) ⌝ }
+pub fn count_before(w: &[u8], stop: Stop) -> usize
+    ensures { λ r. ⌜ (r ≡ countBefore stop (now (w .entry))) × (r ≤ length (now (w .entry))) ⌝ }
 {
     let mut i = 0;
     while i < w.len() {
@@ -42,7 +43,7 @@ pub fn until(w: &[u8], stop: Stop) -> usize
 pub fn before(w: &[u8], stop: Stop) -> &[u8]
     ensures { λ r. ⌜ (now r ≡ before stop (now (w .entry))) × (length (now r) ≤ length (now (w .entry))) ⌝ }
 {
-    let n = until(w, stop);
+    let n = count_before(w, stop);
     &w[..n]
 }
 
@@ -50,7 +51,7 @@ pub fn before(w: &[u8], stop: Stop) -> &[u8]
 pub fn rest(w: &[u8], stop: Stop) -> &[u8]
     ensures { λ r. ⌜ (now r ≡ rest stop (now (w .entry))) × (length (now r) ≤ length (now (w .entry))) ⌝ }
 {
-    let n = until(w, stop);
+    let n = count_before(w, stop);
     &w[n..]
 }
 
@@ -111,14 +112,14 @@ pub fn after_word(w: &[u8]) -> &[u8]
 // Where the line ends that begins at `from`: at the next 0a, or with the text.
 pub fn line_end(text: &[u8], from: usize) -> usize
     requires { ⌜ from ≤ length (now text) ⌝ }
-    ensures { λ r. ⌜ (r ≡ from + until (Byte 0x0a) (drop from (now (text .entry)))) × (r ≤ length (now (text .entry))) ⌝ }
+    ensures { λ r. ⌜ (r ≡ from + countBefore (Byte 0x0a) (drop from (now (text .entry)))) × (r ≤ length (now (text .entry))) ⌝ }
 {
-    from + until(after(text, from), Stop::Byte(b'\n'))
+    from + count_before(after(text, from), Stop::Byte(b'\n'))
 }
 
 // What a digit is worth, of either case; 255 for any other byte.
-fn worth(x: u64) -> u64
-    ensures { λ r. ⌜ r ≡ worth x ⌝ }
+fn digit_value(x: u64) -> u64
+    ensures { λ r. ⌜ r ≡ digitValue x ⌝ }
 {
     if x < 0x30 {
         return 255;
@@ -144,22 +145,22 @@ fn worth(x: u64) -> u64
 // What the byte i of w is worth as a digit.
 fn digit(w: &[u8], i: usize) -> u64
     requires { ⌜ i < length (now w) ⌝ }
-    ensures { λ r. ⌜ r ≡ worth (getD (now (w .entry)) i 0) ⌝ }
+    ensures { λ r. ⌜ r ≡ digitValue (getD (now (w .entry)) i 0) ⌝ }
 {
-    worth(base::wide(w[i]))
+    digit_value(base::wide(w[i]))
 }
 
-// The number that digits of a base make, NONE if a byte is no digit of it. 15 hex digits have room in 64 bits.
-fn digits(w: &[u8], base: u64) -> u64
+// The number that digits of a base make, NO_VALUE if a byte is no digit of it. 15 hex digits have room in 64 bits.
+fn numeral_from(w: &[u8], base: u64) -> u64
     requires { ⌜ (base ≤ 16) × (length (now w) ≤ 15) ⌝ }
-    ensures { λ r. ⌜ r ≡ digits base 0 (now (w .entry)) ⌝ }
+    ensures { λ r. ⌜ r ≡ numeralFrom base 0 (now (w .entry)) ⌝ }
 {
     let mut n: u64 = 0;
     let mut i = 0;
     while i < w.len() {
         let d = digit(w, i);
         if base <= d {
-            return NONE;
+            return NO_VALUE;
         }
         n = base * n + d;
         i += 1;
@@ -167,67 +168,67 @@ fn digits(w: &[u8], base: u64) -> u64
     n
 }
 
-// 1 to `most` digits of a base and nothing else; NONE if w is no such number.
-fn number(w: &[u8], base: u64, most: usize) -> u64
+// 1 to `most` digits of a base and nothing else; NO_VALUE if w is no such number.
+fn numeral(w: &[u8], base: u64, most: usize) -> u64
     requires { ⌜ (base ≤ 16) × (most ≤ 15) ⌝ }
-    ensures { λ r. ⌜ r ≡ number base most (now (w .entry)) ⌝ }
+    ensures { λ r. ⌜ r ≡ numeral base most (now (w .entry)) ⌝ }
 {
     if w.len() == 0 {
-        return NONE;
+        return NO_VALUE;
     }
     if most < w.len() {
-        return NONE;
+        return NO_VALUE;
     }
-    digits(w, base)
+    numeral_from(w, base)
 }
 
 // 1 to 10 decimal digits.
 pub fn decimal(w: &[u8]) -> u64
     ensures { λ r. ⌜ r ≡ decimal (now (w .entry)) ⌝ }
 {
-    number(w, 10, 10)
+    numeral(w, 10, 10)
 }
 
 // 1 to 8 hex digits.
 pub fn hex(w: &[u8]) -> u64
     ensures { λ r. ⌜ r ≡ hex (now (w .entry)) ⌝ }
 {
-    number(w, 16, 8)
+    numeral(w, 16, 8)
 }
 
-// n of `long` bytes stand before the next quote; NONE if n is all of them, since then there is no quote.
-fn closed_at(n: usize, long: usize) -> u64
+// n of `long` bytes stand before the next quote; NO_VALUE if n is all of them, since then there is no quote.
+fn to_quote_at(n: usize, long: usize) -> u64
     requires { ⌜ (n ≤ long) × (long ≤ 65536) ⌝ }
-    ensures { λ r. ⌜ (r ≡ closedAt n long) × (r ≤ none) ⌝ }
+    ensures { λ r. ⌜ (r ≡ toQuoteAt n long) × (r ≤ noValue) ⌝ }
 {
     if n == long {
-        return NONE;
+        return NO_VALUE;
     }
     n as u64
 }
 
 // How many bytes stand between the opening quote, with which w begins, and the closing one.
-fn closed(w: &[u8]) -> u64
+fn to_quote(w: &[u8]) -> u64
     requires { ⌜ length (now w) ≤ 65536 ⌝ }
-    ensures { λ r. ⌜ (r ≡ closed (drop 1 (now (w .entry)))) × (r ≤ none) ⌝ }
+    ensures { λ r. ⌜ (r ≡ toQuote (drop 1 (now (w .entry)))) × (r ≤ noValue) ⌝ }
 {
     let inside = after(w, 1);
-    closed_at(until(inside, Stop::Byte(b'"')), inside.len())
+    to_quote_at(count_before(inside, Stop::Byte(b'"')), inside.len())
 }
 
-// The length of the quoted part that w begins with, its quotes not counted; NONE if w begins with no such part.
+// The length of the quoted part that w begins with, its quotes not counted; NO_VALUE if w begins with no such part.
 pub fn quoted_length(w: &[u8]) -> u64
     requires { ⌜ length (now w) ≤ 65536 ⌝ }
-    ensures { λ r. ⌜ (r ≡ quotedLength (now (w .entry))) × (r ≤ none) ⌝ }
+    ensures { λ r. ⌜ (r ≡ quotedLength (now (w .entry))) × (r ≤ noValue) ⌝ }
 {
     if w.len() == 0 {
-        return NONE;
+        return NO_VALUE;
     }
     let first = w[0];
     if first == b'"' {
-        return closed(w);
+        return to_quote(w);
     }
-    NONE
+    NO_VALUE
 }
 
 // What stands after the closing quote.

@@ -1,4 +1,4 @@
-//! Answers as the programs print them: numbers, with a space after each.
+//! Answers as the program `cases` prints them: numbers, with a space after each.
 
 use plain::{Described, Extent, Found, Located};
 use std::fmt::Write;
@@ -64,4 +64,10 @@ pub fn handed_over(text: &[u8]) -> (Described, [Extent; 4]) {
     let (described, extents) = plain::describe(text, list.len());
     list[..extents.len()].copy_from_slice(&extents);
     (described, list)
+}
+
+/// The bytes as digits from 1 to 256 of a number in base 257, by a prime.
+pub fn digest(bytes: &[u8]) -> u64 {
+    let step = |sum: u64, byte: &u8| (257 * sum + u64::from(*byte) + 1) % 36_028_797_018_963_913;
+    bytes.iter().fold(0, step)
 }

@@ -1,6 +1,6 @@
 //! The stored files, and what they must hold.
 
-use crate::{cases, checks, pairings, sectors, texts};
+use crate::{cases, checks};
 use std::fs;
 use std::io;
 use std::path::{Path, PathBuf};
@@ -23,6 +23,10 @@ pub fn all(root: &Path) -> io::Result<Vec<Stored>> {
         let line = checks::line(&fs::read(root.join(&path))?);
         add(format!("{path}.line"), line.into_bytes());
     }
+    for path in inputs(root, "tests/cases", |name| !name.ends_with(".lines"))? {
+        let lines = cases::output(&fs::read(root.join(&path))?);
+        add(format!("{path}.lines"), lines.into_bytes());
+    }
     for name in programs(root)? {
         let path = format!("crates/{name}/stdin");
         let input = if name == "cases" {
@@ -43,9 +47,6 @@ pub fn all(root: &Path) -> io::Result<Vec<Stored>> {
 fn output(program: &str, input: &[u8]) -> io::Result<String> {
     match program {
         "cases" => Ok(cases::output(input)),
-        "pairings" => Ok(pairings::output(input)),
-        "sectors" => Ok(sectors::output(input)),
-        "texts" => Ok(texts::output(input)),
         "vmdk_check" => Ok(checks::line(input)),
         _ => Err(io::Error::new(
             io::ErrorKind::Other,
@@ -69,13 +70,18 @@ fn programs(root: &Path) -> io::Result<Vec<String>> {
 
 /// The images that vmdk_check is run on: all of tests/checks, and the samples that are named so.
 fn images(root: &Path) -> io::Result<Vec<String>> {
+    let checks = inputs(root, "tests/checks", |name| !name.ends_with(".line"))?;
+    let samples = inputs(root, "samples", |name| name.ends_with(".vmdk"))?;
+    Ok([checks, samples].concat())
+}
+
+/// The paths of a folder's inputs, which a name tells.
+fn inputs(root: &Path, folder: &str, is_input: fn(&str) -> bool) -> io::Result<Vec<String>> {
     let mut paths = Vec::new();
-    for folder in ["tests/checks", "samples"] {
-        for entry in fs::read_dir(root.join(folder))? {
-            let name = entry?.file_name().to_string_lossy().into_owned();
-            if name.ends_with(".vmdk") || (folder == "tests/checks" && !name.ends_with(".line")) {
-                paths.push(format!("{folder}/{name}"));
-            }
+    for entry in fs::read_dir(root.join(folder))? {
+        let name = entry?.file_name().to_string_lossy().into_owned();
+        if is_input(&name) {
+            paths.push(format!("{folder}/{name}"));
         }
     }
     paths.sort();

@@ -1,4 +1,4 @@
-//! What is stored beside the program crates is what the plain implementation says.
+//! What is stored for the program crates is what the plain implementation says.
 
 use vectors::stored::{all, differing, root};
 
@@ -23,7 +23,7 @@ fn small_input() {
     assert!(input.len() <= 1_500_000, "{} bytes", input.len());
 }
 
-/// The stored cases reach each refusal that a call can give. 36 needs a longer text: the program `texts` has it.
+/// The stored cases reach each refusal that a call can give. 36 needs a longer text: tests/cases/texts has it.
 #[test]
 fn every_refusal() {
     let output = std::fs::read_to_string(root().join("crates/cases/stdout")).unwrap();

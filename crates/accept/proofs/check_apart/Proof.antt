@@ -1,7 +1,6 @@
 use Rattle.accept.proofs.Checked.{in-file}
 use Rattle.format.specs.Check.{checkApart}
 use Rattle.base.proofs.Steps.{steps}
-use borrow.Author.Needs.{needs}
 use Rattle.accept.proofs.check_apart.Statement.{statement}
 use Rattle.accept.proofs.check_apart.Tie as tie
 

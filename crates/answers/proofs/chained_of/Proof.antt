@@ -1,4 +1,3 @@
-use Rattle.answers.proofs.Told.{chained-as}
 use borrow.Author.Needs.{needs}
 use Rattle.answers.proofs.chained_of.Statement.{statement}
 use Rattle.answers.proofs.chained_of.Tie as tie
@@ -11,5 +10,5 @@ chained-of-spec =
     (λ served-of-requires κs. search needs)
     (λ enum-known-a-2. search needs)
     (λ unserved-of-requires κs. search needs)
-    (λ returns. search chained-as)
-    (λ returns-2. search chained-as))
+    (λ c. rw (c .before .before .a .given .1) (cc))
+    (λ c. rw (c .before .before .a2 .given .1) (cc)))

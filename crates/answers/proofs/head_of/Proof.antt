@@ -1,4 +1,3 @@
-use Rattle.answers.proofs.Told.{head-as, headless-eq}
 use borrow.Author.Needs.{needs}
 use Rattle.answers.proofs.head_of.Statement.{statement}
 use Rattle.answers.proofs.head_of.Tie as tie
@@ -9,7 +8,6 @@ head-of-spec =
     (tie.spec
     (λ enum-known-a. search needs)
     (λ enum-known-a-2. search needs)
-    (λ number-of-requires κs. search needs)
-    (λ place-of-requires κs. search needs)
-    (λ returns. search head-as)
-    (λ returns-2. search (head-as, headless-eq)))
+    (λ numbers-of-requires κs. search needs)
+    (λ c. rw (c .before .a .given .1))
+    (λ c. rw (c .before .before .a2 .given .1) (cc)))

@@ -1,4 +1,3 @@
-use Rattle.answers.proofs.Told.{served-as}
 use borrow.Author.Needs.{needs}
 use Rattle.answers.proofs.served_of.Statement.{statement}
 use Rattle.answers.proofs.served_of.Tie as tie
@@ -15,7 +14,7 @@ served-of-spec =
     (λ answer-requires-3 κs. search needs)
     (λ enum-known-source-2. search needs)
     (λ answer-requires-4 κs. search needs)
-    (λ returns. search served-as)
-    (λ returns-2. search served-as)
-    (λ returns-3. search served-as)
-    (λ returns-4. search served-as))
+    (λ c. rw (c .before .enum-told .given .1) (cc))
+    (λ c. rw (c .before .enum-told2 .given .1) (cc))
+    (λ c. rw (c .before .before .source .given .1) (cc))
+    (λ c. rw (c .before .before .source2 .given .1) (cc)))

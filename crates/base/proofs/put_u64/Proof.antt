@@ -18,4 +18,5 @@ put-u64-spec =
     (λ same-length. search needs)
     (λ c.
     let one = c .before .before .before .before .before .before .put-u32 .ensures in
-    last _ _ _ _ _ _ _ (c .before .before .put-u322 .ensures) (first _ _ _ _ _ one (omega arith) (le-ends _ 4 _ _ refl)) ∙ ap (over _ _) (le-cut 4 4 _)))
+    last _ _ _ _ _ _ _ (c .before .before .put-u322 .ensures) (first _ _ _ _ _ one (omega arith) (le-ends _ 4 _ _ refl))
+    ∙ ap (over _ _) (le-cut 4 4 _)))

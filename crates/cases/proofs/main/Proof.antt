@@ -5,7 +5,7 @@ use Rattle.cases.proofs.main.Statement.{statement}
 use Rattle.cases.proofs.main.Tie as tie
 
 abbrev Inv-loop : tie.InvT-loop
-Inv-loop head₀ body₀ out₀ left₀ head body out left = (40 ≡ length head) × (262144 ≡ length body) × (65536 ≡ length out)
+Inv-loop head₀ body₀ out₀ left₀ head body out left = (40 ≡ length head) × (295048 ≡ length body) × (65536 ≡ length out)
 
 abbrev μ-loop : tie.MeasureT-loop
 μ-loop head₀ body₀ out₀ left₀ head body out left = left

@@ -1,4 +1,4 @@
-use Rattle.format.specs.Chain.{chain}
+use Rattle.format.specs.Chain.{chainLookup}
 use Rattle.base.proofs.Steps.{steps}
 use Rattle.chain.proofs.Sums.{laid-of}
 use borrow.Author.Needs.{needs}
@@ -6,7 +6,7 @@ use Rattle.chain.proofs.chain.Statement.{statement}
 use Rattle.chain.proofs.chain.Tie as tie
 
 pub chain-spec : {M : Type 1} → statement M
-unfolding chain
+unfolding chainLookup
 chain-spec =
     tie.close
     (tie.spec

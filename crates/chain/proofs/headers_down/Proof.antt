@@ -1,12 +1,11 @@
-use Prim.Native.Nat.{_≤_}
 use mathlib.Core.Path.{_≡_, refl}
 use borrow.Author.Needs.{needs}
-use native.Mathlib.Omega.{arith}
 use lib.ListN.{length}
 use Rattle.format.specs.Chain.{headersDown, walk}
 use Rattle.chain.specs.Layers.{Ends, HeadedFrom}
 use Rattle.chain.proofs.Sums.{ends-all}
-use Rattle.chain.proofs.Down.{ends-here, next-fits, next-ends, header-refused, header-known, headed-all, headed-down, headed-none, headers-end}
+use Rattle.chain.proofs.Down.{ends-here, next-fits, next-ends, header-refused, header-known, headed-all, headed-down}
+use Rattle.chain.proofs.Down.{headed-none, headers-end}
 use Rattle.chain.proofs.headers_down.Statement.{statement}
 use Rattle.chain.proofs.headers_down.Tie as tie
 
@@ -14,7 +13,8 @@ abbrev Inv-loop : tie.InvT-loop
 Inv-loop layers lengths sector end₀ k₀ end k =
     Ends layers lengths k end
     × HeadedFrom layers lengths k
-    × (headersDown layers lengths (length lengths) (walk layers lengths sector) ≡ headersDown layers lengths k (walk layers lengths sector))
+    × (headersDown layers lengths (length lengths) (walk layers lengths sector)
+    ≡ headersDown layers lengths k (walk layers lengths sector))
 
 abbrev μ-loop : tie.MeasureT-loop
 μ-loop layers lengths sector end₀ k₀ end k = k

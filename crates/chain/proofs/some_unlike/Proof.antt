@@ -1,9 +1,8 @@
-use Prim.Native.Nat.{_≤_}
 use mathlib.Core.Path.{_≡_, refl}
 use borrow.Author.Needs.{needs}
 use lib.ListN.{length}
 use Rattle.format.specs.Header.{headerOf}
-use Rattle.format.specs.Entries.{some}
+use Rattle.format.specs.Entries.{anyBelow}
 use Rattle.format.specs.Chain.{layerAt, unlike}
 use Rattle.chain.specs.Layers.{Ends}
 use Rattle.chain.proofs.Sums.{ends-all}
@@ -14,7 +13,8 @@ use Rattle.chain.proofs.some_unlike.Tie as tie
 abbrev Inv-loop : tie.InvT-loop
 Inv-loop layers lengths first end₀ k₀ end k =
     Ends layers lengths k end
-    × (some (λ j. unlike first (headerOf (layerAt layers lengths j))) (length lengths) ≡ some (λ j. unlike first (headerOf (layerAt layers lengths j))) k)
+    × (anyBelow (λ j. unlike first (headerOf (layerAt layers lengths j))) (length lengths)
+    ≡ anyBelow (λ j. unlike first (headerOf (layerAt layers lengths j))) k)
 
 abbrev μ-loop : tie.MeasureT-loop
 μ-loop layers lengths first end₀ k₀ end k = k

@@ -9,7 +9,7 @@ unlike-layer-spec =
     (tie.spec
     (λ judged-layer-requires κs. search needs)
     (λ enum-known-judged. search needs)
-    (λ unlike-of-requires κs. search needs)
+    (λ unlike-requires κs. search needs)
     (λ enum-told. search needs)
     (λ returns. search unlike-known)
     (λ returns-2. search never-unknown))

@@ -18,4 +18,5 @@ collapse-onto-spec =
     let j = c .before .before .before .before .before in
     let a = j .before .before in
     let k = checked-of _ _ _ (a .accepted .ensures) (j .judged2 .given .1) in
-    known-on _ _ (a .accepted .ensures) _ _ _ _ (j .judged2 .given .1) (layers-as _ _ _ _ (a .before .before .before .before .pre) k _ (c .before .before .collapse-layers .ensures))))
+    known-on _ _ (a .accepted .ensures) _ _ _ _ (j .judged2 .given .1)
+    (layers-as _ _ _ _ (a .before .before .before .before .pre) k _ (c .before .before .collapse-layers .ensures))))

@@ -23,4 +23,5 @@ put-back-spec =
     let c3 = c4 .before .before .before .before in
     let c2 = c3 .before .before .before .before in
     let c1 = c2 .before .before .before .before in
-    back _ _ _ _ _ _ _ _ (c6 .fill2 .ensures) (c5 .copy .ensures) (c4 .fill .ensures) (c3 .put-u643 .ensures) (c2 .put-u642 .ensures) (c1 .put-u64 .ensures) (omega arith)))
+    back _ _ _ _ _ _ _ _ (c6 .fill2 .ensures) (c5 .copy .ensures) (c4 .fill .ensures) (c3 .put-u643 .ensures)
+    (c2 .put-u642 .ensures) (c1 .put-u64 .ensures) (omega arith)))

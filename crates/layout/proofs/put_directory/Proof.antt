@@ -3,7 +3,7 @@ use mathlib.Core.Path.{_≡_, refl}
 use native.Mathlib.Omega.{arith}
 use lib.ListN.{length}
 use Rattle.base.specs.Bytes.{over}
-use Rattle.base.specs.Rows.{entries}
+use Rattle.base.specs.Rows.{entryBytes}
 use Rattle.base.proofs.Over.{over-all}
 use Rattle.layout.proofs.Runs.{rows-none, entries-more}
 use borrow.Author.Needs.{needs}
@@ -11,7 +11,8 @@ use Rattle.layout.proofs.put_directory.Statement.{statement}
 use Rattle.layout.proofs.put_directory.Tie as tie
 
 abbrev Inv-loop : tie.InvT-loop
-Inv-loop out₀ first n d₀ out d = (d ≤ n) × (length out ≡ length out₀) × (out ≡ over out₀ 512 (entries d (λ k. first + 4 * k)))
+Inv-loop out₀ first n d₀ out d =
+    (d ≤ n) × (length out ≡ length out₀) × (out ≡ over out₀ 512 (entryBytes d (λ k. first + 4 * k)))
 
 abbrev μ-loop : tie.MeasureT-loop
 μ-loop out₀ first n d₀ out d = n - d
@@ -38,4 +39,4 @@ put-directory-spec =
     (λ c.
     let a = c .before .before .before .args in
     let l = c .before .loop in
-    over-all _ _ _ (l .d) (λ k. entries k (λ i. a .first + 4 * i)) (a .n) (l .inv .2) (omega arith) (omega arith)))
+    over-all _ _ _ (l .d) (λ k. entryBytes k (λ i. a .first + 4 * i)) (a .n) (l .inv .2) (omega arith) (omega arith)))

@@ -26,5 +26,6 @@ put-front-spec =
     let c3 = c4 .before .before .before .before in
     let c2 = c3 .before .before .before .before in
     let c1 = c2 .before .before .before .before in
-    front _ _ _ _ _ _ _ _ _ _ _ (c8 .put-u323 .ensures) (c7 .put-u644 .ensures) (c6 .put-u643 .ensures) (c5 .put-u642 .ensures) (c4 .put-u64 .ensures)
+    front _ _ _ _ _ _ _ _ _ _ _ (c8 .put-u323 .ensures) (c7 .put-u644 .ensures) (c6 .put-u643 .ensures)
+    (c5 .put-u642 .ensures) (c4 .put-u64 .ensures)
     (c3 .put-u322 .ensures) (c2 .put-u32 .ensures) (c1 .copy .ensures)))

@@ -31,4 +31,5 @@ write-directory-spec =
     let p = c .before .before .before .before .before .before in
     let t = p .before .before in
     let fits = directory-ends _ _ _ _ (t .before .tables-of .ensures .0) (t .tables-at .ensures .0) in
-    directory-join _ _ _ _ _ _ _ (c .before .before .fill .ensures) (p .put-directory .ensures) (t .before .tables-of .ensures .0) (t .tables-at .ensures .0) (omega arith)))
+    directory-join _ _ _ _ _ _ _ (c .before .before .fill .ensures) (p .put-directory .ensures)
+    (t .before .tables-of .ensures .0) (t .tables-at .ensures .0) (omega arith)))

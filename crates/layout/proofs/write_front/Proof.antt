@@ -9,7 +9,8 @@ write-front-spec =
     tie.close
     (tie.spec
     (λ c κs. let s = c .before .before .pre in (s .0, front-fits _ _ (s .0 .low) _ (s .1) .0))
-    (λ c κs. let s = c .before .before .before .before .before .before .pre in let room = front-fits _ _ (s .0 .low) _ (s .1) in (s .0, omega arith))
+    (λ c κs. let s = c .before .before .before .before .before .before .pre in let room = front-fits _ _ (s .0 .low) _ (s .1)
+    in (s .0, omega arith))
     (λ c κs.
     let s = c .before .before .before .before .before .before .before .before .before .before .pre in
     let room = front-fits _ _ (s .0 .low) _ (s .1) in (s .0, omega arith))

@@ -10,17 +10,19 @@ write-gap-spec =
     (tie.spec
     (λ tables-end-requires κs. search needs)
     (λ mul-from. search needs)
-    (λ grains-at-requires κs. search needs)
+    (λ sector-v-requires κs. search needs)
     (λ mul-end. search needs)
     (λ c.
     let v = c .before in
-    let fits = gap-follows _ _ (v .before .before .before .pre .0 .low) _ _ (v .before .tables-end .ensures .0) (v .grains-at .ensures .0) in
+    let fits = gap-follows _ _ (v .before .before .before .pre .0 .low) _ _ (v .before .tables-end .ensures .0)
+    (v .sector-v .ensures .0) in
     omega arith)
     (λ c κs.
     let v = c .before in
-    let fits = gap-follows _ _ (v .before .before .before .pre .0 .low) _ _ (v .before .tables-end .ensures .0) (v .grains-at .ensures .0) in
+    let fits = gap-follows _ _ (v .before .before .before .pre .0 .low) _ _ (v .before .tables-end .ensures .0)
+    (v .sector-v .ensures .0) in
     omega arith)
     (λ same-length. search needs)
     (λ c.
     let v = c .before .before .before .before in
-    gap-put _ _ _ _ _ _ (c .before .before .fill .ensures) (v .before .tables-end .ensures .0) (v .grains-at .ensures .0)))
+    gap-put _ _ _ _ _ _ (c .before .before .fill .ensures) (v .before .tables-end .ensures .0) (v .sector-v .ensures .0)))

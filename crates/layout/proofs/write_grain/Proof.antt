@@ -16,4 +16,5 @@ write-grain-spec =
     (λ c.
     let copied = c .before .before .before .before .before .before in
     let k = copied .before .before in
-    grain-join _ _ _ _ _ (k .kept .ensures) (k .before .before .before .pre .2) _ _ _ (c .before .before .fill .ensures) (copied .copy .ensures)))
+    grain-join _ _ _ _ _ (k .kept .ensures) (k .before .before .before .pre .2) _ _ _ (c .before .before .fill .ensures)
+    (copied .copy .ensures)))

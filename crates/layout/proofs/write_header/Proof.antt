@@ -8,9 +8,10 @@ write-header-spec =
     tie.close
     (tie.spec
     (λ put-front-requires κs. search needs)
-    (λ grains-at-requires κs. search needs)
+    (λ sector-v-requires κs. search needs)
     (λ put-back-requires κs. search needs)
     (λ same-length. search needs)
     (λ c.
     let v = c .before .before .before in
-    header-join _ _ _ _ _ _ (c .before .before .put-back .ensures) (v .before .before .before .before .put-front .ensures) (v .grains-at .ensures .0)))
+    header-join _ _ _ _ _ _ (c .before .before .put-back .ensures) (v .before .before .before .before .put-front .ensures)
+    (v .sector-v .ensures .0)))

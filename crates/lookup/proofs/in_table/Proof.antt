@@ -13,6 +13,6 @@ in-table-spec =
     (λ table-past-requires κs. search needs)
     (λ returns. search steps)
     (λ rem-k. search needs)
-    (λ table-at-requires κs. search table-read)
+    (λ meaning-at-requires κs. search table-read)
     (λ lookup-entry-requires κs. search needs)
-    (λ c. rw (← c .before .table-at .ensures) (search steps)))
+    (λ c. rw (← c .before .meaning-at .ensures) (search steps)))

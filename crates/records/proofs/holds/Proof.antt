@@ -1,5 +1,5 @@
+-- `records::holds` meets its contract: each return by the law on one record.
 use Rattle.records.proofs.Search.{held, not-held}
-use borrow.Author.Needs.{needs}
 use Rattle.records.proofs.holds.Statement.{statement}
 use Rattle.records.proofs.holds.Tie as tie
 

@@ -10,6 +10,6 @@ read-text-spec =
     (tie.spec
     (λ rest-requires κs. search needs)
     (λ before-requires κs. search needs)
-    (λ until-requires κs. search needs)
+    (λ count-before-requires κs. search needs)
     (λ judged-text-requires κs. search needs)
     (λ returns. cc))

@@ -7,6 +7,6 @@ pub before-spec : {M : Type 1} → statement M
 before-spec =
     tie.close
     (tie.spec
-    (λ until-requires κs. search needs)
+    (λ count-before-requires κs. search needs)
     (λ slice-aggregate-result. search front-long)
     (λ returns. (cc, search front-short)))

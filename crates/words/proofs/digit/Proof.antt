@@ -8,5 +8,5 @@ digit-spec =
     (tie.spec
     (λ shared-slice-read-wide. search needs)
     (λ wide-requires κs. search needs)
-    (λ worth-requires κs. search needs)
+    (λ digit-value-requires κs. search needs)
     (λ returns. cc))

@@ -1,5 +1,5 @@
 -- `kept`: at each turn as many bytes are left of the first n as of all.
-use Prim.Native.Nat.{_≤_, _-_}
+use Prim.Native.Nat.{_≤_}
 use mathlib.Core.Path.{refl}
 use borrow.Author.Needs.{needs}
 use lib.ListN.{length}

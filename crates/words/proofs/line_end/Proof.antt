@@ -8,6 +8,6 @@ line-end-spec =
     tie.close
     (tie.spec
     (λ after-requires κs. search needs)
-    (λ until-requires κs. search needs)
+    (λ count-before-requires κs. search needs)
     (λ add-result. search needs)
     (λ returns. (cc, search end-inside)))

@@ -11,6 +11,6 @@ quoted-length-spec =
     (tie.spec
     (λ returns. (search steps depth 12, search needs))
     (λ shared-slice-read-first. search needs)
-    (λ closed-requires κs. search needs)
+    (λ to-quote-requires κs. search needs)
     (λ returns-2. (search steps depth 12, search needs))
     (λ returns-3. (search steps depth 12, search needs)))

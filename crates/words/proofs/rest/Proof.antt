@@ -7,7 +7,7 @@ pub rest-spec : {M : Type 1} → statement M
 rest-spec =
     tie.close
     (tie.spec
-    (λ until-requires κs. search needs)
+    (λ count-before-requires κs. search needs)
     (λ sub-result. search needs)
     (λ part-result-start. search needs)
     (λ part-result-end. search needs)

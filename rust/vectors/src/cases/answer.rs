@@ -1,23 +1,41 @@
 //! The lines that the program prints for a case: a call and the numbers of its answer.
 
-use super::{Case, CHAIN, COLLAPSE, IMAGE, SEARCHED, TEXT};
-use crate::adler;
+use super::{Case, CHAIN, COLLAPSE, FIND, IMAGE, SEARCHED, TEXT};
 use crate::input::Input;
-use crate::numbers::{described, extent, found, handed_over, line, located};
+use crate::numbers::{described, digest, extent, found, handed_over, line, located};
 use plain::{Extent, Refusal};
 
 impl Case {
     pub fn lines(&self) -> Vec<String> {
-        match self.asked {
+        let mut lines = match self.asked {
             IMAGE => self.image_lines(),
-            CHAIN => self.chain_lines(),
-            COLLAPSE => {
-                let (lower, upper) = self.bytes.split_at(self.lengths[0] as usize);
-                let result = plain::collapse(lower, upper, self.room as usize);
-                vec![self.written_line("collapse ", result)]
-            }
+            COLLAPSE => self.collapse_lines(),
             TEXT => self.text_lines(),
-            _ => self.find_lines(),
+            _ => Vec::new(),
+        };
+        for sector in &self.sectors {
+            lines.extend(self.sector_lines(*sector));
+        }
+        lines
+    }
+
+    fn sector_lines(&self, sector: u64) -> Vec<String> {
+        match self.asked {
+            CHAIN => {
+                let answer = plain::chain(&self.bytes, &self.lengths, sector);
+                vec![line("chain ", &located(answer))]
+            }
+            TEXT | FIND => {
+                let records = self.records();
+                let find = || line("find ", &found(plain::find(&records, sector)));
+                (!records.is_empty()).then(find).into_iter().collect()
+            }
+            _ => {
+                let lookup = line("lookup ", &located(plain::lookup(&self.bytes, sector)));
+                let part = plain::read(&self.bytes, sector);
+                let read = &self.bytes[part.at as usize..(part.at + part.length) as usize];
+                vec![lookup, line("read ", &[part.length, digest(read)])]
+            }
         }
     }
 
@@ -34,46 +52,64 @@ impl Case {
             h.descriptor,
             h.descriptor_sectors,
         ];
-        let mut lines = vec![line("check ", &check), line("header ", &header)];
-        for sector in &self.sectors {
-            lines.push(line("lookup ", &located(plain::lookup(image, *sector))));
-            let part = plain::read(image, *sector);
-            let read = &image[part.at as usize..(part.at + part.length) as usize];
-            lines.push(line("read ", &[part.length, adler::sum(read)]));
-        }
         let result = plain::normal(image, self.room as usize);
-        lines.push(self.written_line("normal ", result));
-        lines
+        vec![
+            line("check ", &check),
+            line("header ", &header),
+            self.written_line("normal ", result),
+        ]
     }
 
-    /// The answer of a call that writes, and the sum of the whole output, whose bytes were 170 before.
+    /// A layer alone is put into normal form, more are collapsed in each order.
+    fn collapse_lines(&self) -> Vec<String> {
+        let mut input = Input::new(&self.bytes);
+        let layers: Vec<&[u8]> = self.lengths.iter().map(|n| input.bytes(*n)).collect();
+        let call = match layers[..] {
+            [_] => "normal ",
+            _ => "collapse ",
+        };
+        let results = collapsed(&layers, self.room as usize).into_iter();
+        results.map(|one| self.written_line(call, one)).collect()
+    }
+
+    /// The answer of a call that writes, and the digest of the whole output, whose bytes were 170 before.
     fn written_line(&self, call: &str, result: Result<Vec<u8>, Refusal>) -> String {
         let mut out = vec![170; self.room as usize];
         let w = plain::over(result, &mut out);
-        line(call, &[w.number, w.place, w.length, adler::sum(&out)])
-    }
-
-    fn chain_lines(&self) -> Vec<String> {
-        let mut lines = Vec::new();
-        for sector in &self.sectors {
-            let answer = plain::chain(&self.bytes, &self.lengths, *sector);
-            lines.push(line("chain ", &located(answer)));
-        }
-        lines
+        line(call, &[w.number, w.place, w.length, digest(&out)])
     }
 
     fn text_lines(&self) -> Vec<String> {
         let (answer, list) = handed_over(&self.bytes);
         let mut lines = vec![line("descriptor ", &described(answer))];
-        lines.extend(list.iter().map(|record| line("record ", &extent(record))));
+        for record in list.iter().chain(&self.records()) {
+            lines.push(line("record ", &extent(record)));
+        }
         lines
     }
 
-    fn find_lines(&self) -> Vec<String> {
+    /// The records that a text comes to, or that the bytes hold.
+    fn records(&self) -> Vec<Extent> {
+        if self.asked == TEXT {
+            return plain::describe(&self.bytes, plain::MOST_EXTENTS).1;
+        }
         let mut input = Input::new(&self.bytes);
-        let records: Vec<Extent> = (0..SEARCHED).map(|_| read_extent(&mut input)).collect();
-        let find = |sector: &u64| line("find ", &found(plain::find(&records, *sector)));
-        self.sectors.iter().map(find).collect()
+        (0..SEARCHED).map(|_| read_extent(&mut input)).collect()
+    }
+}
+
+/// The collapse in every order of pairing neighbours, whose outputs on the way have 65,536 bytes: a refused one leaves none.
+fn collapsed(layers: &[&[u8]], room: usize) -> Vec<Result<Vec<u8>, Refusal>> {
+    match *layers {
+        [one] => vec![plain::normal(one, room)],
+        [lower, upper] => vec![plain::collapse(lower, upper, room)],
+        _ => (1..layers.len())
+            .flat_map(|at| {
+                let pair = plain::collapse(layers[at - 1], layers[at], 65_536).unwrap_or_default();
+                let rest = [&layers[..at - 1], &[&pair[..]], &layers[at + 1..]].concat();
+                collapsed(&rest, room)
+            })
+            .collect(),
     }
 }
 

@@ -14,11 +14,12 @@ pub use choose::input;
 const IMAGE: u64 = 0;
 /// The chain lookup for each sector.
 const CHAIN: u64 = 1;
-/// The collapse of two images, the lower one as long as the length says.
+/// The collapse of one to four layers, in each order of pairing neighbours.
 const COLLAPSE: u64 = 2;
-/// The extents of a text, in a list of four records.
+/// The extents of a text, in a list of four records and all of them, and the search for each sector in them.
 const TEXT: u64 = 3;
-/// The search for each sector in a list of `SEARCHED` records, which the bytes hold.
+/// The search for each sector in a list of `SEARCHED` records, which the bytes hold. The next number asks for the lookup and
+/// the grain reader alone.
 const FIND: u64 = 4;
 
 const SEARCHED: usize = 32;

@@ -88,7 +88,7 @@ impl Side for Recorder {
     fn collapse(&self, lower: &[u8], upper: &[u8], out: &mut [u8]) -> Written {
         self.keep(Case {
             asked: COLLAPSE,
-            lengths: vec![lower.len() as u64],
+            lengths: vec![lower.len() as u64, upper.len() as u64],
             bytes: [lower, upper].concat(),
             room: out.len() as u64,
             ..Case::default()

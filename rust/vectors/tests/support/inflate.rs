@@ -149,7 +149,7 @@ pub fn inflate(bytes: &[u8]) -> Vec<u8> {
         }
     }
     bits.skip_to_byte();
-    let sum = vectors::adler::sum(&out);
+    let sum = super::adler::sum(&out);
     assert_eq!(bytes[bits.at / 8..], (sum as u32).to_be_bytes());
     out
 }

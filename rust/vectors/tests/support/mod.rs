@@ -1,5 +1,6 @@
 //! What the test of the samples needs and the library does not have.
 
+mod adler;
 pub mod disk;
 pub mod inflate;
 pub mod map;

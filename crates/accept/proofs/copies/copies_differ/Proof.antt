@@ -12,6 +12,9 @@ copies-differ-spec =
     (tie.spec
     (λ returns. search no-copies)
     (λ directory-entries-requires κs. search needs)
-    (λ ceil-div-requires κs. search needs)
-    (λ directories-differ-requires κs. ((search primary-room, search copies-room), (search grains-left, (search table-room, search copy-room))))
+    (λ grains-of-requires κs. search needs)
+    (λ directories-differ-requires κs. (
+      (search primary-room, search copies-room),
+      (search grains-left, (search table-room, search copy-room)),
+    ))
     (λ returns-2. search both-compared))

@@ -3,7 +3,7 @@ use Prim.Native.Nat.{_≤_, _-_, _*_, min}
 use mathlib.Core.Path.{_≡_}
 use mathlib.Core.Bool.{false}
 use borrow.Author.Needs.{needs}
-use Rattle.format.specs.Entries.{tableAt, some}
+use Rattle.format.specs.Entries.{meaningAt, anyBelow}
 use Rattle.format.specs.Check.{copyDiffers}
 use Rattle.accept.proofs.PlacesLoop.{some-start, some-here, some-next, some-end}
 use Rattle.accept.proofs.CopiesLaws.{room-below, used-below}
@@ -11,12 +11,13 @@ use Rattle.accept.proofs.copies.directories_differ.Statement.{statement
 use Rattle.accept.proofs.copies.directories_differ.Tie as tie
 
 abbrev Inv-loop : tie.InvT-loop
-Inv-loop image one-is-zero directory redundant per-table grains n d₀ d =
+Inv-loop image h grains n d₀ d =
     (d ≤ n)
-    × (some (λ k. copyDiffers image (min per-table (grains - k * per-table)) (tableAt image one-is-zero directory k) (tableAt image one-is-zero redundant k)) d ≡ false)
+    × (anyBelow (λ k. copyDiffers image (min (h .«entries_per_table») (grains - k * h .«entries_per_table»))
+    (meaningAt image (h .«one_is_zero») (h .directory) k) (meaningAt image (h .«one_is_zero») (h .redundant) k)) d ≡ false)
 
 abbrev μ-loop : tie.MeasureT-loop
-μ-loop image one-is-zero directory redundant per-table grains n d₀ d = n - d
+μ-loop image h grains n d₀ d = n - d
 
 pub directories-differ-spec : {M : Type 1} → statement M
 directories-differ-spec =

@@ -7,7 +7,8 @@ use Rattle.base.proofs.Rounding.{next-base}
 use Rattle.format.specs.declared.Lowest.the-variants.{None}
 use Rattle.accept.proofs.GrainsLeft.{Left, left-start, left-table, left-none, none-kept}
 use Rattle.accept.proofs.GrainsRule.{ruleOf}
-use Rattle.accept.proofs.GrainsWalk.{Table, directory-in, absent-table, zero-table, table-named, table-in, entry-filed, walk-here, walk-more}
+use Rattle.accept.proofs.GrainsWalk.{Table, directory-in, absent-table, zero-table, table-named, table-in, entry-filed}
+use Rattle.accept.proofs.GrainsWalk.{walk-here, walk-more}
 use Rattle.accept.proofs.grains.lowest_broken.Statement.{statement}
 use Rattle.accept.proofs.grains.lowest_broken.Tie as tie
 
@@ -35,14 +36,14 @@ lowest-broken-spec =
     μ-dir
     (λ grains-of-requires κs. search needs)
     (λ dir-holds. (refl, search needs, search needs, left-start _ _))
-    (λ table-at-requires κs. search directory-in)
+    (λ meaning-at-requires κs. search directory-in)
     (λ enum-told. search needs)
     (λ enum-told-2. search needs)
     (λ enum-known-table. search needs)
     (λ sub-entries-in-use. search needs)
     (λ entries-in-use-requires κs. search needs)
     (λ loop-holds. (search needs, search needs, search table-named, rw add-zero (search needs)))
-    (λ table-at-requires-2 κs. search table-in)
+    (λ meaning-at-requires-2 κs. search table-in)
     (λ add-entry-broken. search needs)
     (λ entry-broken-requires κs. (search needs, search entry-filed))
     (λ add-t19. search needs)
@@ -53,7 +54,8 @@ lowest-broken-spec =
       search needs,
       search needs,
       search needs,
-      walk-more (w .before .loop .inv .2) (w .loop-test .taken) _ (c .before .before .table-at2 .ensures) (c .before .entry-broken .ensures) (w .before .loop .inv .3) (search needs),
+      walk-more (w .before .loop .inv .2) (w .loop-test .taken) _ (c .before .before .meaning-at2 .ensures)
+          (c .before .entry-broken .ensures) (w .before .loop .inv .3) (search needs),
     ))
     (λ add-d. search needs)
     (λ add-first. search needs)
@@ -66,4 +68,5 @@ lowest-broken-spec =
     (λ returns. search left-none)
     (λ c.
     let w = c .before .before .before in
-    walk-here (w .before .loop .inv .2) (w .loop-test .taken) _ (c .before .before .table-at2 .ensures) (c .before .entry-broken .ensures) (w .before .loop .inv .3) (search needs) (search needs)))
+    walk-here (w .before .loop .inv .2) (w .loop-test .taken) _ (c .before .before .meaning-at2 .ensures)
+    (c .before .entry-broken .ensures) (w .before .loop .inv .3) (search needs) (search needs)))

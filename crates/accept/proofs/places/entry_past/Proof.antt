@@ -6,6 +6,6 @@ pub entry-past-spec : {M : Type 1} → statement M
 entry-past-spec =
     tie.close
     (tie.spec
-    (λ table-at-requires κs. search needs)
+    (λ meaning-at-requires κs. search needs)
     (λ named-past-requires κs. search needs)
     (λ returns. cc))

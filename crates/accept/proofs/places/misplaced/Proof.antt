@@ -14,9 +14,13 @@ misplaced-spec =
     (λ returns. search steps)
     (λ directory-misplaced-requires κs. search needs)
     (λ returns-2. search steps)
-    (λ redundant-misplaced-requires κs. search needs)
+    (λ redundant-directory-misplaced-requires κs. search needs)
     (λ returns-3. search steps)
     (λ c κs. (search needs, sym (c .before .before .before .directory-misplaced .ensures) ∙ c .before .before .if2 .left))
     (λ returns-4. search steps)
-    (λ c κs. (search needs, sym (c .before .before .before .redundant-misplaced .ensures) ∙ c .before .before .if3 .left))
+    (λ c κs. (
+      search needs,
+      sym (c .before .before .before .redundant-directory-misplaced .ensures)
+          ∙ c .before .before .if3 .left,
+    ))
     (λ returns-5. search steps))

@@ -4,7 +4,7 @@ use mathlib.Core.Path.{_≡_}
 use mathlib.Core.Bool.{false}
 use borrow.Author.Needs.{needs}
 use Rattle.format.specs.Geometry.{fileSectors}
-use Rattle.format.specs.Entries.{tableAt, some}
+use Rattle.format.specs.Entries.{meaningAt, anyBelow}
 use Rattle.format.specs.Areas.{named, runsPast}
 use Rattle.accept.proofs.PlacesLoop.{some-start, some-here, some-next, some-end, rows-past}
 use Rattle.accept.proofs.places.tables_past.Statement.{statement}
@@ -12,7 +12,8 @@ use Rattle.accept.proofs.places.tables_past.Tie as tie
 
 abbrev Inv-loop : tie.InvT-loop
 Inv-loop image one-is-zero sectors directory n d₀ d =
-    (d ≤ n) × (some (λ k. runsPast (fileSectors image) (named (λ e. sectors) (tableAt image one-is-zero directory k))) d ≡ false)
+    (d ≤ n) × (anyBelow (λ k. runsPast (fileSectors image) (named (λ e. sectors) (meaningAt image one-is-zero directory k))) d
+    ≡ false)
 
 abbrev μ-loop : tie.MeasureT-loop
 μ-loop image one-is-zero sectors directory n d₀ d = n - d

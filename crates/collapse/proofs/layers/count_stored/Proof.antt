@@ -30,8 +30,12 @@ count-stored-spec =
     (λ loop-less. search needs)
     (λ c.
     let l = c .before .before .before in
-    let s = l .before .before .before .before .pre in
-    (search needs, search needs, count-more _ _ _ _ s _ _ _ _ (l .loop .inv .2) (c .before .source-of .ensures) (c .stores-of .ensures .0)))
+    let s = l .before .before .before .before .pre in (
+      search needs,
+      search needs,
+      count-more _ _ _ _ s _ _ _ _ (l .loop .inv .2) (c .before .source-of .ensures)
+          (c .stores-of .ensures .0),
+    ))
     (λ c.
     let n = c .before .before .grains-of .ensures .0 in
     (count-all _ _ _ _ _ (c .before .loop .inv .2) n (omega arith) (omega arith), omega arith)))

@@ -9,13 +9,13 @@ unfolding inTable
 entry-of-spec =
     tie.close
     (tie.spec
-    (λ div-table-at. search needs)
-    (λ table-at-requires κs. search directory-read)
+    (λ div-meaning-at. search needs)
+    (λ meaning-at-requires κs. search directory-read)
     (λ enum-told. search needs)
     (λ enum-told-2. search needs)
     (λ enum-known-table. search needs)
-    (λ rem-table-at. search needs)
-    (λ table-at-requires-2 κs. search table-read)
+    (λ rem-meaning-at. search needs)
+    (λ meaning-at-requires-2 κs. search table-read)
     (λ returns. search table-as)
     (λ returns-2. search table-as)
     (λ returns-3. search table-as))

@@ -9,8 +9,11 @@ image-length-spec =
     tie.close
     (tie.spec
     (λ count-stored-requires κs. search needs)
-    (λ grains-at-requires κs. search needs)
-    (λ c. let n = c .before .before in let few = grains-small _ _ (n .before .before .before .pre .below .sound .sizes) _ (n .count-stored .ensures .1) in omega arith)
-    (λ c. let n = c .before .before in let few = grains-small _ _ (n .before .before .before .pre .below .sound .sizes) _ (n .count-stored .ensures .1) in omega arith)
-    (λ c. let n = c .before .before in let few = grains-small _ _ (n .before .before .before .pre .below .sound .sizes) _ (n .count-stored .ensures .1) in omega arith)
-    (λ c. length-is _ _ _ _ _ (c .before .grains-at .ensures .0) (c .before .before .count-stored .ensures .0)))
+    (λ sector-v-requires κs. search needs)
+    (λ c. let n = c .before .before in let few = grains-small _ _ (n .before .before .before .pre .below .sound .sizes) _
+    (n .count-stored .ensures .1) in omega arith)
+    (λ c. let n = c .before .before in let few = grains-small _ _ (n .before .before .before .pre .below .sound .sizes) _
+    (n .count-stored .ensures .1) in omega arith)
+    (λ c. let n = c .before .before in let few = grains-small _ _ (n .before .before .before .pre .below .sound .sizes) _
+    (n .count-stored .ensures .1) in omega arith)
+    (λ c. length-is _ _ _ _ _ (c .before .sector-v .ensures .0) (c .before .before .count-stored .ensures .0)))

@@ -1,4 +1,4 @@
-use Rattle.format.specs.Grains.{count}
+use Rattle.format.specs.Grains.{oneIfStored}
 use mathlib.Core.Path.{refl}
 use Rattle.collapse.proofs.Grain.{grain-lent, stored-put}
 use borrow.Author.Needs.{needs}
@@ -6,7 +6,7 @@ use Rattle.collapse.proofs.write.put_stored.Statement.{statement}
 use Rattle.collapse.proofs.write.put_stored.Tie as tie
 
 pub put-stored-spec : {M : Type 1} → statement M
-unfolding count
+unfolding oneIfStored
 put-stored-spec =
     tie.close
     (tie.spec
@@ -25,4 +25,5 @@ put-stored-spec =
     (λ c.
     let p = c .before .before .before .before .before .before .before in
     let a = p .before .before .before .before .args in
-    stored-put _ _ _ _ _ _ _ refl (grain-lent _ _ _ (a .e) (a .image .now) _ _ _ _ (p .put-u32 .ensures) (c .before .before .write-grain .ensures))))
+    stored-put _ _ _ _ _ _ _ refl (grain-lent _ _ _ (a .e) (a .image .now) _ _ _ _ (p .put-u32 .ensures)
+    (c .before .before .write-grain .ensures))))

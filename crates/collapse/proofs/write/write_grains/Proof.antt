@@ -1,5 +1,4 @@
 use Prim.Native.Nat.{_≤_, _-_}
-use mathlib.Core.Path.{_≡_}
 use native.Mathlib.Omega.{arith}
 use Rattle.layout.proofs.Grains.{Done, done-none, done-all}
 use Rattle.collapse.specs.Layers.{layered}
@@ -25,7 +24,7 @@ write-grains-spec =
     (λ c κs. c .before .before .before .before .pre .0 .below .sound .sizes)
     (λ mul-table. search needs)
     (λ c κs. c .before .before .before .before .before .pre .0 .below .sound .sizes)
-    (λ c. (search needs, done-none _ _ _ _ _ (c .grains-at .ensures .0)))
+    (λ c. (search needs, done-none _ _ _ _ _ (c .sector-v .ensures .0)))
     (λ source-of-requires κs. search needs)
     (λ mul-put-grain. search needs)
     (λ add-put-grain. search needs)
@@ -33,14 +32,18 @@ write-grains-spec =
     let l = c .before .before .before in
     let t = l .before .before in
     let s = t .before .before .before .before .before .pre in
-    grain-ready _ _ _ _ (s .0) _ (omega arith) _ (c .before .source-of .ensures) _ _ _ (l .loop .inv .1) (s .1) _ (t .tables-at .ensures .0))
+    grain-ready _ _ _ _ (s .0) _ (omega arith) _ (c .before .source-of .ensures) _ _ _ (l .loop .inv .1) (s .1) _
+    (t .tables-at .ensures .0))
     (λ add-g. search needs)
     (λ loop-less. search needs)
     (λ c.
     let q = c .before .before in
     let l = q .before .before .before .before in
     let t = l .before .before in
-    let s = t .before .before .before .before .before .pre in
-    (search needs, grain-done _ _ _ _ (s .0) _ (omega arith) _ (q .before .before .source-of .ensures) _ _ _ (l .loop .inv .1) (s .1) _ _ _ (t .tables-at .ensures .0) (q .put-grain .ensures)))
+    let s = t .before .before .before .before .before .pre in (
+      search needs,
+      grain-done _ _ _ _ (s .0) _ (omega arith) _ (q .before .before .source-of .ensures) _ _ _ (l .loop .inv .1)
+          (s .1) _ _ _ (t .tables-at .ensures .0) (q .put-grain .ensures),
+    ))
     (λ same-length. search needs)
     (λ c. done-all _ _ _ _ _ _ _ (c .before .loop .inv .1) _ (omega arith) (omega arith)))

@@ -1,4 +1,3 @@
-use Rattle.header.proofs.Records.{cowd-eq}
 use Rattle.format.specs.Cowd.{cowdFields}
 use borrow.Author.Needs.{needs}
 use Rattle.header.proofs.cowd.fields.Statement.{statement}
@@ -14,4 +13,4 @@ fields-spec =
     (λ u32-at-requires-3 κs. search needs)
     (λ u32-at-requires-4 κs. search needs)
     (λ u32-at-requires-5 κs. search needs)
-    (λ returns. (search cowd-eq, search needs)))
+    (λ returns. (cc, search needs)))

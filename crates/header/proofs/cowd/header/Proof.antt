@@ -1,4 +1,3 @@
-use Rattle.header.proofs.Records.{header-eq}
 use Rattle.format.specs.Header.{cowdHeader}
 use borrow.Author.Needs.{needs}
 use Rattle.header.proofs.cowd.header.Statement.{statement}
@@ -10,4 +9,4 @@ header-spec =
     tie.close
     (tie.spec
     (λ directory-sectors-requires κs. search needs)
-    (λ returns. search header-eq))
+    (λ returns. cc))

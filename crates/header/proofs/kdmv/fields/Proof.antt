@@ -1,6 +1,5 @@
 use borrow.Author.Needs.{needs}
 use Rattle.format.specs.Kdmv.{kdmvFields}
-use Rattle.header.proofs.Records.{kdmv-eq}
 use Rattle.header.proofs.kdmv.fields.Statement.{statement}
 use Rattle.header.proofs.kdmv.fields.Tie as tie
 
@@ -21,4 +20,4 @@ fields-spec =
     (λ slice-aggregate-same-at. search needs)
     (λ same-at-requires κs. search needs)
     (λ u16-at-requires κs. search needs)
-    (λ returns. search kdmv-eq))
+    (λ returns. cc))

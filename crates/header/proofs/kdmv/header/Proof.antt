@@ -1,4 +1,3 @@
-use Rattle.header.proofs.Records.{header-eq}
 use Rattle.format.specs.Header.{kdmvHeader}
 use borrow.Author.Needs.{needs}
 use Rattle.header.proofs.kdmv.header.Statement.{statement}
@@ -11,4 +10,4 @@ header-spec =
     (tie.spec
     (λ directory-entries-requires κs. search needs)
     (λ directory-sectors-requires κs. search needs)
-    (λ c. rw (← c .before .before .before .directory-entries .ensures .0) (search header-eq)))
+    (λ returns. cc))

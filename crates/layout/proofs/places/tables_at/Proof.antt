@@ -11,4 +11,5 @@ tables-at-spec =
     (λ tables-of-requires κs. search needs)
     (λ directory-sectors-requires κs. search needs)
     (λ c. omega (arith, directory-few _ _ (c .before .tables-of .ensures .1) (c .directory-sectors .ensures)))
-    (λ c. first-table _ _ _ _ (c .before .tables-of .ensures .0) (c .before .tables-of .ensures .1) (c .directory-sectors .ensures)))
+    (λ c. first-table _ _ _ _ (c .before .tables-of .ensures .0) (c .before .tables-of .ensures .1)
+    (c .directory-sectors .ensures)))

@@ -1,10 +1,10 @@
-use Rattle.format.specs.Layout.{tables}
+use Rattle.format.specs.Layout.{tableCount}
 use borrow.Author.Needs.{needs}
 use Rattle.layout.proofs.places.tables_of.Statement.{statement}
 use Rattle.layout.proofs.places.tables_of.Tie as tie
 
 pub tables-of-spec : {M : Type 1} → statement M
-unfolding tables
+unfolding tableCount
 tables-of-spec =
     tie.close
     (tie.spec

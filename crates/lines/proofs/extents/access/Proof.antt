@@ -1,6 +1,5 @@
 use Rattle.descriptor.specs.Extents.{accessOf}
 use borrow.Author.Needs.{needs}
-use Rattle.base.proofs.Steps.{steps}
 use Rattle.lines.proofs.extents.access.Statement.{statement}
 use Rattle.lines.proofs.extents.access.Tie as tie
 
@@ -9,13 +8,10 @@ unfolding accessOf
 access-spec =
     tie.close
     (tie.spec
-    (λ slice-aggregate-same-word. search needs)
-    (λ same-word-requires κs. search needs)
-    (λ returns. search steps depth 12)
-    (λ slice-aggregate-same-word-2. search needs)
-    (λ same-word-requires-2 κs. search needs)
-    (λ returns-2. search steps depth 12)
-    (λ slice-aggregate-same-word-3. search needs)
-    (λ same-word-requires-3 κs. search needs)
-    (λ returns-3. search steps depth 12)
-    (λ returns-4. search steps depth 12))
+    (λ slice-aggregate-number-if. search needs)
+    (λ number-if-requires κs. search needs)
+    (λ slice-aggregate-number-if-2. search needs)
+    (λ number-if-requires-2 κs. search needs)
+    (λ slice-aggregate-number-if-3. search needs)
+    (λ number-if-requires-3 κs. search needs)
+    (λ returns. cc))

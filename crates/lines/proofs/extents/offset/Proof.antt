@@ -11,6 +11,6 @@ offset-spec =
     (tie.spec
     (λ returns. search steps depth 12)
     (λ returns-2. search steps depth 12)
-    (λ spaced-requires κs. search needs)
+    (λ blanks-then-decimal-requires κs. search needs)
     (λ returns-3. search steps depth 12)
     (λ returns-4. search steps depth 12))

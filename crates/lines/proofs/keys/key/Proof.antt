@@ -1,6 +1,5 @@
 use Rattle.descriptor.specs.Keys.{keyOf}
 use borrow.Author.Needs.{needs}
-use Rattle.base.proofs.Steps.{steps}
 use Rattle.lines.proofs.keys.key.Statement.{statement}
 use Rattle.lines.proofs.keys.key.Tie as tie
 
@@ -9,16 +8,12 @@ unfolding keyOf
 key-spec =
     tie.close
     (tie.spec
-    (λ slice-aggregate-same-word. search needs)
-    (λ same-word-requires κs. search needs)
-    (λ returns. search steps depth 12)
-    (λ slice-aggregate-same-word-2. search needs)
-    (λ same-word-requires-2 κs. search needs)
-    (λ returns-2. search steps depth 12)
-    (λ slice-aggregate-same-word-3. search needs)
-    (λ same-word-requires-3 κs. search needs)
-    (λ returns-3. search steps depth 12)
-    (λ slice-aggregate-same-word-4. search needs)
-    (λ same-word-requires-4 κs. search needs)
-    (λ returns-4. search steps depth 12)
-    (λ returns-5. search steps depth 12))
+    (λ slice-aggregate-number-if. search needs)
+    (λ number-if-requires κs. search needs)
+    (λ slice-aggregate-number-if-2. search needs)
+    (λ number-if-requires-2 κs. search needs)
+    (λ slice-aggregate-number-if-3. search needs)
+    (λ number-if-requires-3 κs. search needs)
+    (λ slice-aggregate-number-if-4. search needs)
+    (λ number-if-requires-4 κs. search needs)
+    (λ returns. cc))

@@ -6,6 +6,6 @@ pub key-line-spec : {M : Type 1} → statement M
 key-line-spec =
     tie.close
     (tie.spec
-    (λ until-requires κs. search needs)
+    (λ count-before-requires κs. search needs)
     (λ split-at-requires κs. search needs)
     (λ returns. cc))

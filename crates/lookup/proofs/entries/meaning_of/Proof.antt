@@ -1,6 +1,5 @@
 use Rattle.format.specs.Entries.{meaning}
 use Rattle.base.proofs.Steps.{steps}
-use borrow.Author.Needs.{needs}
 use Rattle.lookup.proofs.entries.meaning_of.Statement.{statement}
 use Rattle.lookup.proofs.entries.meaning_of.Tie as tie
 

@@ -9,7 +9,8 @@ use Rattle.overlap.proofs.entries.mark_entries.Statement.{statement}
 use Rattle.overlap.proofs.entries.mark_entries.Tie as tie
 
 abbrev Inv-loop : tie.InvT-loop
-Inv-loop words₀ lo image least packed size t n k₀ words k = (k ≤ n) × Marked lo words₀ (rows k (entryArea image least packed size t)) words
+Inv-loop words₀ lo image least packed size t n k₀ words k =
+    (k ≤ n) × Marked lo words₀ (rows k (entryArea image least packed size t)) words
 
 abbrev μ-loop : tie.MeasureT-loop
 μ-loop words₀ lo image least packed size t n k₀ words k = n - k

@@ -20,8 +20,8 @@ mark-grains-spec =
     μ-loop
     (λ least-sector-requires κs. search needs)
     (λ loop-holds. search tables-start)
-    (λ sub-smaller. search needs)
-    (λ smaller-requires κs. search needs)
+    (λ sub-entries-in-use. search needs)
+    (λ entries-in-use-requires κs. search needs)
     (λ mark-table-grains-requires κs. ((search needs, search tables-entry), search tables-table))
     (λ same-length. search needs)
     (λ returns. search tables-met)

@@ -9,7 +9,7 @@ unfolding ended
 ended-spec =
     tie.close
     (tie.spec
-    (λ complete-requires κs. search needs)
+    (λ judged-end-requires κs. search needs)
     (λ returns. search steps depth 8)
     (λ refused-requires κs. search needs)
     (λ returns-2. search steps depth 8))
