@@ -2,12 +2,13 @@
 use Prim.Native.Nat.{ℕ, zero, suc, _+_}
 use mathlib.Core.List.{List}
 use mathlib.Core.Bool.{Bool, true, false, not, _&&_, _||_}
-use lib.Dec.{ltb, eqb}
+use lib.Dec.{eqb}
 use Rattle.base.specs.Pick.{pick}
 use Rattle.format.specs.Geometry.{fileSectors}
 use Rattle.format.specs.Header.{grainsOf, directoryEntriesOf, judge}
 use Rattle.format.specs.Entries.{entryAt, meaningAt, grainEntry, entriesInUse, markerBroken, anyBelow}
-use Rattle.format.specs.Areas.{redundantArea, primaryTables, redundantTables, grainArea, areas, runsPast, meet}
+use Rattle.format.specs.Areas.{area, redundantArea, primaryTables, redundantTables, grainArea, areas, endsPast, runsPast}
+use Rattle.format.specs.Areas.{meet}
 use Rattle.format.specs.declared.Header.{Header}
 use Rattle.format.specs.declared.Entry.{Entry}
 use Rattle.format.specs.declared.Entry.the-variants.{Absent, Zero, Sector}
@@ -26,11 +27,11 @@ abbrev pub descriptorMisplaced : ℕ → Header → Bool
 descriptorMisplaced f h =
     (eqb (h .descriptor) 0 && not (eqb (h .«descriptor_sectors») 0))
     || ((not (eqb (h .descriptor) 0) && eqb (h .«descriptor_sectors») 0)
-    || ltb f (h .descriptor + h .«descriptor_sectors»))
+    || endsPast f (area (h .descriptor) (h .«descriptor_sectors»)))
 
 -- directory sector 0, or the directory past F
 abbrev pub directoryMisplaced : ℕ → Header → Bool
-directoryMisplaced f h = eqb (h .directory) 0 || ltb f (h .directory + h .«directory_sectors»)
+directoryMisplaced f h = eqb (h .directory) 0 || endsPast f (area (h .directory) (h .«directory_sectors»))
 
 -- the redundant directory past F
 abbrev pub redundantDirectoryMisplaced : ℕ → Header → Bool

@@ -2,11 +2,12 @@
 use Prim.Native.Nat.{ℕ, _+_, _*_, _/_, _%_}
 use mathlib.Core.List.{List}
 use mathlib.Core.Bool.{Bool, _&&_}
-use lib.Dec.{ltb, leb}
+use lib.Dec.{leb}
 use Rattle.base.specs.Pick.{pick}
 use Rattle.format.specs.Geometry.{fileSectors, bytesAt}
 use Rattle.format.specs.Header.{judge}
 use Rattle.format.specs.Entries.{meaningAt, grainEntry, markerSize, markerBroken, grainSectors}
+use Rattle.format.specs.Areas.{area, endsPast}
 use Rattle.format.specs.Check.{directoryMisplaced}
 use Rattle.format.specs.declared.Header.{Header}
 use Rattle.format.specs.declared.Entry.{Entry}
@@ -34,11 +35,10 @@ abbrev pub sourceOf : List ℕ → Header → ℕ → Source
 sourceOf s h x = entrySource s (h .packed) (x % h .«grain_size») (grainEntry s h (x / h .«grain_size»))
 
 -- ---- the lookup: 1 to 7, 20, then of 8 to 10 only directory sector 0 and the whole directory, and the table and the grain
--- that x
--- leads to
+-- that x leads to
 unfoldable pub lookupGrain : List ℕ → Header → ℕ → ℕ → ℕ → LookupAnswer
 lookupGrain s h g o e =
-    pick (ltb (fileSectors s) (e + grainSectors s (h .packed) (h .«grain_size») e)) (Refused (GrainPast g))
+    pick (endsPast (fileSectors s) (area e (grainSectors s (h .packed) (h .«grain_size») e))) (Refused (GrainPast g))
     (pick (h .packed && markerBroken s (h .«grain_size») g e) (Refused (Marker g)) (Found (grainSource s (h .packed) o e)))
 
 unfoldable pub lookupEntry : List ℕ → Header → ℕ → ℕ → Entry → LookupAnswer
@@ -50,7 +50,7 @@ unfoldable pub lookupTable : List ℕ → Header → ℕ → ℕ → Entry → L
 lookupTable s h g o noEntry = Found Absent
 lookupTable s h g o zeroEntry = Found Zero
 lookupTable s h g o (Sector t) =
-    pick (ltb (fileSectors s) (t + h .«table_sectors»)) (Refused Misplaced)
+    pick (endsPast (fileSectors s) (area t (h .«table_sectors»))) (Refused Misplaced)
     (lookupEntry s h g o (meaningAt s (h .«one_is_zero») t (g % h .«entries_per_table»)))
 
 unfoldable pub lookupIn : List ℕ → Header → ℕ → LookupAnswer

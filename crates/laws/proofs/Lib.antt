@@ -5,6 +5,7 @@ pub mod AcceptedLayout
 pub mod AcceptedImage
 pub mod AcceptedSmall
 pub mod ServedLookup
+pub mod LookupPlain
 pub mod ServedBytes
 pub mod ServedSectors
 pub mod ServedChain

@@ -11,7 +11,13 @@ use descriptor::Extent;
 use descriptor::Line;
 use descriptor::Stop;
 
-// The types' numbers in a record.
+// The numbers of accesses and types in a record; 0 is for any other word.
+const RW: u64 = 1;
+
+const RDONLY: u64 = 2;
+
+const NOACCESS: u64 = 3;
+
 const FLAT: u64 = 1;
 
 const VMFS: u64 = 2;
@@ -22,16 +28,16 @@ const VMFSSPARSE: u64 = 4;
 
 const ZERO: u64 = 5;
 
-// RW, RDONLY and NOACCESS are 1, 2 and 3 in a record; 0 is for any other word.
+// The number of an access.
 pub fn access(w: &[u8]) -> u64
     ensures { λ r. ⌜ r ≡ accessOf (now (w .entry)) ⌝ }
 {
-    let other = number_if(w, b"noaccess", 3, 0);
-    let other = number_if(w, b"rdonly", 2, other);
-    number_if(w, b"rw", 1, other)
+    let other = number_if(w, b"noaccess", NOACCESS, 0);
+    let other = number_if(w, b"rdonly", RDONLY, other);
+    number_if(w, b"rw", RW, other)
 }
 
-// The number of a type; 0 is for any other word.
+// The number of a type.
 fn kind(w: &[u8]) -> u64
     ensures { λ r. ⌜ r ≡ typeOf (now (w .entry)) ⌝ }
 {

@@ -1,6 +1,5 @@
 -- An array of records that a struct holds. A struct's laws know such a field as an array of the fields' tuples, and a function
--- that
--- takes the array by value asks for it as one of records: both say the same of each element, and how many there are.
+-- that takes the array by value asks for it as one of records: both say the same of each element, and how many there are.
 use Prim.Native.Nat.{ℕ}
 use mathlib.Core.Path.{_≡_, refl, sym, ap, subst, _∙_}
 use mathlib.Core.List.{List, [], _∷_, map}

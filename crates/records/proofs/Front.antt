@@ -1,6 +1,5 @@
 -- A list whose first i records have been replaced by the first i of another; and what `store`'s contract says, by how its
--- tests
--- came out.
+-- tests came out.
 use Prim.Native.Nat.{ℕ, zero, suc, _+_, _≤_, _<_}
 use mathlib.Core.Path.{_≡_, refl, ap, _∙_, sym}
 use mathlib.Core.Bool.{Bool, true, false, _&&_}

@@ -1,6 +1,5 @@
 -- A function's locals, all at once: they are allocated on entry with the arguments in them, and freed at the return whatever
--- they
--- hold. The logic's own rules take one local at a time, and a walk by hand would name each local's place again at each of
+-- they hold. The logic's own rules take one local at a time, and a walk by hand would name each local's place again at each of
 -- them.
 use Prim.Native.Nat.{ℕ, zero}
 use mathlib.Core.Option.{Option, none, some}

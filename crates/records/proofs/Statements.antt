@@ -1,6 +1,5 @@
 -- Statements and operands on whole locals: the logic's rules find a place step by step, and nearly every place of a walk by
--- hand is a
--- whole local. An entry of the context is named by its number, counted from 0.
+-- hand is a whole local. An entry of the context is named by its number, counted from 0.
 use Prim.Native.Nat.{ℕ, zero, _<_, _^_}
 use mathlib.Core.Path.{_≡_, refl}
 use mathlib.Core.List.{List, [], _∷_}

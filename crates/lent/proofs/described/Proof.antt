@@ -1,7 +1,6 @@
 -- `lent::described` meets its contract: a walk of its MIR, by hand, since the borrow checker covers no list of records. A copy
--- of the
--- array is lent as a `&mut [Extent]` for a lifetime that is made for the call, and comes back at the list that `describe`
--- says.
+-- of the array is lent as a `&mut [Extent]` for a lifetime that is made for the call, and comes back at the list that
+-- `describe` says.
 use Rattle.records.proofs.Kit
 use Kit.{List, [], _∷_, some, _≡_, refl, sym, ap, subst, _∙_, ℕ, lit<, length, fullShare, URA, named, Ty, erased, tyRef, mut}
 use Kit.{fat, GName, fsep, flent, SProp, emp, id⊢, Memory, Routine, Heap, WpFn, Tables, Atoms, Fun, factI, givenOf, tables}

@@ -1,6 +1,5 @@
 -- `lent::found` meets its contract: a walk of its MIR, by hand, since the borrow checker covers no list of records. A copy of
--- the records
--- is lent as a `&[Extent]` for a lifetime that is made for the call, and taken back.
+-- the records is lent as a `&[Extent]` for a lifetime that is made for the call, and taken back.
 use Rattle.records.proofs.Kit
 use Kit.{List, [], _∷_, some, _≡_, refl, sym, ap, subst, ℕ, lit<, length, fullShare, URA, named, w64, Ty, erased, imm, tyRef}
 use Kit.{vint, fat, GName, fsep, flent, SProp, emp, id⊢, Memory, Routine, Heap, WpFn, Tables, Atoms, Fun, factI, givenOf}

@@ -1,7 +1,6 @@
 -- `records::describe` meets its contract: a walk of its MIR, by hand, since the borrow checker covers no list of records.
--- Three calls in
--- a row: `parse`, `store` of what it made, and `answered` of both. All that is known of the three is that they meet their
--- contracts.
+-- Three calls in a row: `parse`, `store` of what it made, and `answered` of both. All that is known of the three is that they
+-- meet their contracts.
 use Rattle.records.proofs.Kit
 use Kit.{Bool, List, [], _∷_, map, some, _≡_, refl, ap, subst, _∙_, ℕ, URA, named, w64, Val, vbool, vint, SProp, emp, id⊢}
 use Kit.{Memory, Routine, Heap, WpFn, Tables, Atoms, Fun, factI, givenOf, tables, fmOf, Given, _$_, !, move, keep, fsplit}

@@ -1,6 +1,5 @@
 -- `records::find` meets its contract: a walk of its MIR, by hand, since the borrow checker covers no list of records. In each
--- turn of the
--- loop the record at i is copied out of the list and `holds` is called; of `holds` only the contract is used.
+-- turn of the loop the record at i is copied out of the list and `holds` is called; of `holds` only the contract is used.
 use Rattle.records.proofs.Kit
 use Kit.{Bool, List, [], _∷_, Option, some, none, _≡_, refl, sym, ap, _∙_, ℕ, _+_, _≤_, _<_, _^_, zero-le, lt-of-le-of-lt}
 use Kit.{add-one-le, add-one-dec, ltb→lt, nltb→le, lit<, length, getD, drop, fullShare, URA, named, w64, tyPtr, tyBool, Val}

@@ -1,8 +1,6 @@
 -- `records::store` meets its contract: a walk of its MIR, by hand, since the borrow checker covers no list of records. After
--- the two tests
--- the loop's invariant is that the list has the first i of the records at its front. In each turn `record_at` is called, of
--- which only the
--- contract is used, the borrow is opened, the record i is stored, and the borrow is closed.
+-- the two tests the loop's invariant is that the list has the first i of the records at its front. In each turn `record_at` is
+-- called, of which only the contract is used, the borrow is opened, the record i is stored, and the borrow is closed.
 use Rattle.records.proofs.Kit
 use Kit.{Bool, true, false, List, [], _∷_, _++_, Option, some, none, _≡_, refl, sym, ap, subst, _∙_, ℕ, _+_, _≤_, _<_, _^_}
 use Kit.{zero-le, lt-of-le-of-lt, lt-of-lt-of-le, le-trans, le-antisymm, add-one-le, add-one-dec, ltb→lt, nltb→le, lit<}

@@ -1,6 +1,5 @@
 -- `anhkhovet_descriptor` meets its contract: a walk of its MIR, by hand, since the borrow checker covers no list of records.
--- The list is
--- lent on, and the one call is of `records::describe`, of which the proof knows only that it meets its contract.
+-- The list is lent on, and the one call is of `records::describe`, of which the proof knows only that it meets its contract.
 use Rattle.records.proofs.Kit
 use Kit.{[], _∷_, some, _≡_, refl, ap, URA, named, SProp, emp, id⊢, Memory, Routine, Heap, WpFn, Tables, Atoms, Fun, factI}
 use Kit.{givenOf, tables, fmOf, Given, _$_, !, move, whole, sub, look-in, agg, look, stop, hop, fld, from, load, and-then}

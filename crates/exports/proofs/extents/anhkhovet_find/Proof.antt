@@ -1,6 +1,5 @@
 -- `anhkhovet_find` meets its contract: a walk of its MIR, by hand, since the borrow checker covers no list of records. The one
--- call is
--- of `records::find`, of which the proof knows only that it meets its contract.
+-- call is of `records::find`, of which the proof knows only that it meets its contract.
 use Rattle.records.proofs.Kit
 use Kit.{[], _∷_, some, _≡_, refl, ap, URA, named, w64, SProp, emp, id⊢, Memory, Routine, Heap, WpFn, Tables, Atoms, Fun}
 use Kit.{factI, givenOf, tables, fmOf, Given, _$_, !, move, look, and-then, no-more, returns, init, params1, pass1, pass0}
