@@ -63,10 +63,14 @@ for crate in crates:
     totals = [a + b for a, b in zip(totals, row)]
     table.append(f'| `{crate}` | ' + ' | '.join(f'{n:,}' for n in row) + ' |')
 table.append('| **all** | ' + ' | '.join(f'{n:,}' for n in totals) + ' |')
-(root / 'docs/HOUSE.md').write_text('''# The house in numbers
+model = re.search(r'model name\s*: (.*)', Path('/proc/cpuinfo').read_text())
+minutes = re.search(r'^gate: (\d+) minutes$', log, re.M)
+(root / 'docs/HOUSE.md').write_text(f'''# The house in numbers
 
 Written by tests/house.py from the sources and the log of a gate's run. Lines count comments and blank ones. Seconds are of
 one job beside another on two cores; edits run after the crates, two at a time.
+
+The whole gate: {minutes[1] if minutes else '?'} minutes on two cores ({model[1] if model else 'unknown'}).
 
 | crate | code | functions | definitions | laws | functions' proofs | seconds | edits | their seconds |
 |---|---|---|---|---|---|---|---|---|
