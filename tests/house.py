@@ -83,7 +83,11 @@ def stands_at(crate, place):
     path = root / 'crates' / crate / file
     text = path.read_text().splitlines()[int(line) - 1].strip() if path.exists() else ''
     asked = re.search(r'λ ([a-z][\w-]*)', text)
-    return f'`{asked[1]}`' if asked else f'`{text[:60]}`'.replace('|', '\\|') if text else ''
+    if asked:
+        return 'the contract' if len(asked[1]) == 1 or asked[1].startswith('returns') else f'`{asked[1]}`'
+    if text == 'tie.close' or file.startswith('src/'):
+        return 'the contract of a function that needs no proof file'
+    return f'`{text[:60]}`'.replace('|', '\\|')
 
 
 rows = []
@@ -107,8 +111,8 @@ wrong there is wrong here.
 
 ## All of them
 
-The first error of each log: where it stands in the edited crate, and what was to be shown there (`returns` is the contract
-itself, `..-requires` what a callee asks for; else the line of the proof).
+The first error of each log: where it stands in the edited crate, and what was to be shown there: the contract, what a callee
+asks for (`..-requires`), a loop's invariant (`loop-again`), or what the line of the proof says.
 
 | edit | what it does | first error | what was to be shown |
 |---|---|---|---|
