@@ -61,9 +61,9 @@ tells n s wanted =
 
 -- the first call's number and place
 abbrev refuses : ℕ → ℕ → List ℕ → Example
-refuses numeral place s =
+refuses number place s =
     let d = descriptorAnswer s (lent 32) in
-    record { gives = d .number ∷ d .place ∷ []; wants = numeral ∷ place ∷ [] }
+    record { gives = d .number ∷ d .place ∷ []; wants = number ∷ place ∷ [] }
 
 -- no refusal
 abbrev accepts : List ℕ → Example

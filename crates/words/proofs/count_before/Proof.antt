@@ -1,4 +1,4 @@
--- `until`: at each turn the run is the bytes so far and the run of what is left.
+-- `count_before`: at each turn the run is the bytes so far and the run of what is left.
 use Prim.Native.Nat.{_≤_, _-_}
 use borrow.Author.Needs.{needs}
 use native.Mathlib.Nat.{zero-add}

@@ -1,4 +1,4 @@
--- `digits`: at each turn the number, read on from what the digits so far make, is that of all.
+-- `numeral_from`: at each turn the number, read on from what the digits so far make, is that of all.
 use Prim.Native.Nat.{_≤_, _-_, _<_, _^_}
 use mathlib.Core.Path.{refl}
 use borrow.Author.Needs.{needs}
