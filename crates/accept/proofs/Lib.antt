@@ -1,8 +1,1 @@
-pub mod PlacesLaws
-pub mod PlacesLoop
-pub mod PlacesKept
-pub mod CopiesLaws
-pub mod GrainsLeft
-pub mod GrainsRule
-pub mod GrainsWalk
 pub mod Checked

@@ -4,16 +4,12 @@ ghost use Rattle.format.specs.Header.{judge};
 ghost use Rattle.format.specs.Check.{lowestBadMarker, unlessGrain, checkApart, checkCopies, checkGrains, checkLayout, check};
 ghost use Rattle.format.specs.declared.HeaderAnswer.the-variants.{Known};
 ghost use Rattle.format.specs.declared.Refusal.the-variants.{Marker};
-ghost use Rattle.accept.specs.Placed.{Placed, Filed};
+ghost use Rattle.format.specs.Judged.{Placed, Filed};
 use format::CheckAnswer;
 use format::Header;
 use format::HeaderAnswer;
 use format::Lowest;
 use format::Refusal;
-
-pub mod copies;
-pub mod grains;
-pub mod places;
 
 // 12, the last of them.
 fn check_apart(image: &[u8], h: Header) -> CheckAnswer

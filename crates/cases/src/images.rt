@@ -38,7 +38,7 @@ pub fn look(image: &[u8], sector: u64) {
         answers::located_of(lookup::lookup(image, sector)),
     );
     programs::start(b"read ");
-    let part = lookup::read(image, sector);
+    let part = reader::read(image, sector);
     programs::put(part.len() as u64);
     programs::put(programs::digest(part));
     programs::end();

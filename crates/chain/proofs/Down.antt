@@ -24,11 +24,12 @@ use Rattle.format.specs.declared.LookupAnswer.{LookupAnswer}
 use Rattle.format.specs.declared.LookupAnswer.the-variants.{Found as foundIn, Refused as refusedIn}
 use Rattle.format.specs.declared.ChainAnswer.{ChainAnswer}
 use Rattle.format.specs.declared.ChainAnswer.the-variants.{Found, Refused}
-use Rattle.header.proofs.Sound.{judged-header}
-use Rattle.chain.specs.Layers.{Laid, Ends, HeadedFrom, stepOf}
+use Rattle.header.proofs.HeaderAnswered.{judged-header}
+use Rattle.lengths.specs.Laid.{Laid, Ends}
+use Rattle.chain.specs.LayerSteps.{HeadedFrom, stepOf}
 use Rattle.chain.specs.declared.Step.{Step}
 use Rattle.chain.specs.declared.Step.the-variants.{Below, Answer}
-use Rattle.chain.proofs.Sums.{layer-fits, ends-down}
+use Rattle.lengths.proofs.Sums.{layer-fits, ends-down}
 
 -- ---- the next layer
 module _ (s l : List ℕ) (k end : ℕ) (e : Ends s l k end) (h : 0 < k) where

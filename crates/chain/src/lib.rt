@@ -1,13 +1,13 @@
 // The chain lookup: layers end to end in one lent slice, base first, and a lent list of their lengths.
 ghost use mathlib.Core.Path.{_≡_};
-ghost use Prim.Native.Nat.{_+_, _<_};
-ghost use lib.Dec.{eqb};
+ghost use Prim.Native.Nat.{_+_};
 ghost use lib.ListN.{length};
 ghost use Rattle.format.specs.Header.{headerOf, judge};
 ghost use Rattle.format.specs.Entries.{anyBelow};
 ghost use Rattle.format.specs.Source.{sectorLookup};
-ghost use Rattle.format.specs.Chain.{lengthsSum, layerAt, lengthsBroken, headersDown, unlike, walkDown, walk, chainLookup};
-ghost use Rattle.chain.specs.Layers.{Laid, Ends, HeadedFrom, stepOf};
+ghost use Rattle.format.specs.Chain.{layerAt, headersDown, unlike, walkDown, walk, chainLookup};
+ghost use Rattle.lengths.specs.Laid.{Laid, Ends};
+ghost use Rattle.chain.specs.LayerSteps.{HeadedFrom, stepOf};
 use format::ChainAnswer;
 use format::Header;
 use format::HeaderAnswer;
@@ -15,36 +15,12 @@ use format::LayerSource;
 use format::LookupAnswer;
 use format::Refusal;
 use format::Source;
+use lengths::lengths_broken;
 
 // Whether the layer below is asked, or this is the answer.
 pub enum Step {
     Below,
     Answer(ChainAnswer),
-}
-
-// Whether the lengths add up to n: what is left of n cannot wrap, as their sum could.
-fn sum_is(lengths: &[u64], n: u64) -> bool
-    ensures { λ r. ⌜ r ≡ eqb (lengthsSum (now (lengths .entry))) n ⌝ }
-{
-    let mut left = n;
-    let mut i = 0;
-    while i < lengths.len() {
-        let next = lengths[i];
-        if left < next {
-            return false;
-        }
-        left -= next;
-        i += 1;
-    }
-    left == 0
-}
-
-// 24: 1 to 16 layers, whose lengths are the slice's.
-fn lengths_broken(layers: &[u8], lengths: &[u64]) -> bool
-    ensures { λ r. ⌜ r ≡ lengthsBroken (now (layers .entry)) (now (lengths .entry)) ⌝ }
-{
-    let all = sum_is(lengths, layers.len() as u64);
-    (lengths.len() == 0) | ((16 < lengths.len()) | !all)
 }
 
 // The header of layer k, which ends at byte `end` of the chain.

@@ -24,11 +24,11 @@ use Rattle.format.proofs.HeaderJudged.{judged-header}
 use Rattle.format.proofs.Inside.{named-in}
 use Rattle.format.proofs.LowestGrain.{none-lowest}
 use Rattle.format.proofs.Passed.{header-passed, layout-passed}
-use Rattle.format.proofs.Layers.{alike}
-use Rattle.header.proofs.Sound.{judged-sound}
-use Rattle.accept.specs.Placed.{Filed}
-use Rattle.accept.proofs.PlacesKept.{primary-room, table-room}
-use Rattle.collapse.specs.Layers.{Readable, Layers}
+use Rattle.format.proofs.LayersAt.{alike}
+use Rattle.header.proofs.HeaderAnswered.{judged-sound}
+use Rattle.format.specs.Judged.{Filed}
+use Rattle.format.proofs.PlacesKept.{primary-room, table-room}
+use Rattle.layers.specs.TwoLayers.{Readable, Layers}
 use Rattle.collapse.specs.Answered.{acceptedHeader, Checked}
 
 -- ---- a check that accepts went through 1 to 9

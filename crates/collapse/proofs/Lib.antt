@@ -1,5 +1,2 @@
-pub mod Sources
 pub mod Checks
-pub mod Answers
-pub mod Grain
-pub mod Loops
+pub mod CollapseSteps

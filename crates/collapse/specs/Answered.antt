@@ -11,7 +11,7 @@ use Rattle.format.specs.declared.CheckAnswer.the-variants.{Accepted, Refused as
 use Rattle.format.specs.declared.HeaderAnswer.{HeaderAnswer}
 use Rattle.format.specs.declared.HeaderAnswer.the-variants.{Known, Refused as unknown}
 use Rattle.format.specs.declared.CollapseAnswer.{CollapseAnswer}
-use Rattle.accept.specs.Placed.{Filed}
+use Rattle.format.specs.Judged.{Filed}
 
 -- the header of an image that the check accepts, or why it is refused
 unfoldable pub acceptedHeader : CheckAnswer → Header → HeaderAnswer

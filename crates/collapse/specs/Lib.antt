@@ -1,3 +1,1 @@
-pub mod Layers
-pub mod Put
 pub mod Answered

@@ -5,24 +5,13 @@ ghost use Rattle.format.specs.Header.{headerOf};
 ghost use Rattle.format.specs.Check.{check};
 ghost use Rattle.format.specs.Collapse.{collapsed, ifAccepted, notCollapsible, writtenIfRoom, normal, normalOutput};
 ghost use Rattle.format.specs.Collapse.{collapseFrom, collapse, collapseOutput};
-ghost use Rattle.collapse.specs.Layers.{layered, imageOf, lengthOf, Layers};
+ghost use Rattle.layers.specs.TwoLayers.{layered, imageOf, lengthOf, Layers};
 ghost use Rattle.collapse.specs.Answered.{acceptedHeader, collapseAccepted, Checked, Answered};
 use format::CheckAnswer;
 use format::CollapseAnswer;
 use format::Header;
 use format::HeaderAnswer;
 use format::Refusal;
-
-mod layers;
-mod write;
-
-// Where a grain of two layers comes from: if it is stored, the layer and the sector.
-pub enum GrainSource {
-    Absent,
-    Zero,
-    Lower(u64),
-    Upper(u64),
-}
 
 // The header of an accepted image, or why it is refused.
 fn accepted(image: &[u8]) -> HeaderAnswer
@@ -51,11 +40,11 @@ fn write_fitted(lower: &[u8], h: Header, upper: &[u8], k: Header, out: &mut [u8]
         ⌜ Answered (writtenIfRoom (length (now (out .entry))) (lengthOf (now (lower .entry)) h (now (upper .entry)) k))
         (imageOf (now (lower .entry)) h (now (upper .entry)) k) (now (out .entry)) r (now (out .exit)) ⌝ }
 {
-    let long = write::image_length(lower, h, upper, k);
+    let long = writer::image_length(lower, h, upper, k);
     if (out.len() as u64) < long {
         return CollapseAnswer::Refused(Refusal::TooLittleRoom);
     }
-    write::write_image(&mut *out, lower, h, upper, k);
+    writer::write_image(&mut *out, lower, h, upper, k);
     CollapseAnswer::Written(long)
 }
 

@@ -47,7 +47,7 @@ pub extern "C" fn anhkhovet_chain(layers: &[u8], lengths: &[u64], sector: u64) -
 pub extern "C" fn anhkhovet_read(image: &[u8], sector: u64) -> Part
     ensures { λ r. ⌜ r ≡ answerPart (sectorLookup (now (image .entry)) sector) ⌝ }
 {
-    lookup::part(image, sector)
+    reader::part(image, sector)
 }
 
 #[no_mangle]

@@ -14,10 +14,13 @@ pub mod HeaderFooter
 pub mod HeaderKdmv
 pub mod HeaderCowd
 pub mod HeaderJudged
-pub mod HeaderRoom
+pub mod HeaderSound
 pub mod Places
 pub mod Filed
 pub mod Passed
 pub mod Grains
 pub mod Lengths
-pub mod Layers
+pub mod LayersAt
+pub mod AnyBelow
+pub mod Faults
+pub mod PlacesKept

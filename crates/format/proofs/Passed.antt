@@ -17,6 +17,7 @@ use Rattle.format.specs.declared.HeaderAnswer.{HeaderAnswer}
 use Rattle.format.specs.declared.HeaderAnswer.the-variants.{Known, Refused as unknown}
 use Rattle.format.specs.declared.CheckAnswer.{CheckAnswer}
 use Rattle.format.specs.declared.CheckAnswer.the-variants.{Accepted, Refused}
+use Rattle.format.specs.Judged.{Passed}
 use Rattle.format.proofs.Picked.{passed}
 
 -- ---- its steps
@@ -38,15 +39,6 @@ header-passed s (unknown r) c g e = let z : _≡_ {A = ℕ} 0 1 = cc in absurd (
 header-passed s (Known h) c g e = (h, refl, e)
 
 -- ---- 8 to 12
-pub record Passed (s : List ℕ) (h : Header) (c g : ℕ) : Type 0 where
-  pub places : misplaced s h ≡ false
-  pub grains : lowestPast s h ≡ None
-  pub markers : lowestBadMarker s h ≡ None
-  pub copies : copiesDiffer s h ≡ false
-  pub apart : meet (areas s h) ≡ false
-  pub capacity : c ≡ h .capacity
-  pub size : g ≡ h .«grain_size»
-
 pub layout-passed : (s : List ℕ) (h : Header) (c g : ℕ) → checkLayout s h ≡ Accepted c g → Passed s h c g
 unfolding checkLayout checkGrains checkCopies checkApart
 layout-passed s h c g e =

@@ -12,3 +12,4 @@ pub mod Grains
 pub mod Layout
 pub mod Collapse
 pub mod Answers
+pub mod Judged

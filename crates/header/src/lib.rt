@@ -6,10 +6,6 @@ use format::Header;
 use format::HeaderAnswer;
 use format::Refusal;
 
-mod cowd;
-mod kdmv;
-pub mod sizes;
-
 // The header of an image of either kind, or the first of 1 to 7 that it breaks.
 pub fn judge(image: &[u8]) -> HeaderAnswer
     ensures { λ r. ⌜ r ≡ judge (now (image .entry)) ⌝ }

@@ -25,7 +25,7 @@ use Rattle.format.specs.declared.CheckAnswer.the-variants.{Accepted, Refused as
 use Rattle.format.specs.declared.CollapseAnswer.{CollapseAnswer}
 use Rattle.format.specs.declared.CollapseAnswer.the-variants.{Written, Refused}
 use Rattle.format.proofs.Picked.{pick-else, passed}
-use Rattle.format.proofs.Layers.{like, alike}
+use Rattle.format.proofs.LayersAt.{like, alike}
 use Rattle.laws.specs.Layers.{Layer}
 use Rattle.laws.proofs.AcceptedImage.{accepted-sound}
 use Rattle.laws.proofs.CollapsedLayers.{capacity-is, size-is}

@@ -24,7 +24,7 @@ use Rattle.format.specs.declared.ChainAnswer.{ChainAnswer}
 use Rattle.format.specs.declared.ChainAnswer.the-variants.{Found, Refused}
 use Rattle.format.proofs.Picked.{pick-then, pick-else}
 use Rattle.format.proofs.Entries.{no-some}
-use Rattle.format.proofs.Layers.{like}
+use Rattle.format.proofs.LayersAt.{like}
 use Rattle.laws.specs.Layers.{Layer, Every, none, more, endToEnd, lengthsOf, mapOfLayers}
 use Rattle.laws.proofs.ServedSectors.{accepted-good}
 use Rattle.laws.proofs.CollapsedMaps.{onto-assoc, onto-nothing}

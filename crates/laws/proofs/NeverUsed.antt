@@ -34,7 +34,8 @@ use Rattle.format.specs.declared.LookupAnswer.the-variants.{Found, Refused}
 use Rattle.format.proofs.BytesAt.{part-long}
 use Rattle.format.proofs.Geometry.{grain-of, entry-used}
 use Rattle.format.proofs.Entries.{some-sectors, past-same}
-use Rattle.format.proofs.HeaderRoom.{Roomy, judged-roomy}
+use Rattle.format.specs.Judged.{Sound}
+use Rattle.format.proofs.HeaderSound.{sound-of}
 use Rattle.format.proofs.Places.{directory-in}
 
 -- agreement in length and in every byte of the F whole sectors, of which there is one at least
@@ -146,7 +147,7 @@ module _ (s t : List ℕ) (both : SameSectors s t) where
   entry-same : (u k sectors : ℕ) → 4 * k + 4 ≤ 512 * sectors → u + sectors ≤ fileSectors s → entryAt s u k ≡ entryAt t u k
   entry-same u k sectors l i = le-same s t both (512 * u + 4 * k) 4 (omega arith)
 
-  module _ (h : Header) (room : Roomy h) (u : ℕ) where
+  module _ (h : Header) (room : Sound h) (u : ℕ) where
     pub directory-same : u + h .«directory_sectors» ≤ fileSectors s → (d : ℕ) → d < directoryEntriesOf h → entryAt s u d
         ≡ entryAt t u d
     directory-same i d l = entry-same u d (h .«directory_sectors») (omega (arith, room .directory)) i
@@ -169,16 +170,16 @@ module _ (s t : List ℕ) (both : SameSectors s t) where
   source-same false size o e l h = part-same s t both (512 * (e + o)) 512 (omega arith)
 
   -- ---- the lookup, step by step
-  module _ (h : Header) (room : Roomy h) (g o : ℕ) (low : o < h .«grain_size») where
+  module _ (h : Header) (room : Sound h) (g o : ℕ) (low : o < h .«grain_size») where
     grain-served : (e : ℕ) → SameAnswer s t (lookupGrain s h g o e) (lookupGrain t h g o e)
     unfolding lookupGrain markerBroken grainSource
     grain-served e =
-        rw (← both .long, ← past-same (h .packed) (h .«grain_size») e (room .low) s t (fileSectors s) (λ l p. size-same e l))
+        rw (← both .long, ← past-same (h .packed) (h .«grain_size») e (room .sizes .low) s t (fileSectors s) (λ l p. size-same e l))
         (pick-both (SameAnswer s t) _ _ _ _ _ (λ p. refused)
         (λ n.
         let sectors = grainSectors s (h .packed) (h .«grain_size») e in
         let i : e + sectors ≤ fileSectors s = ltb-false (fileSectors s) (e + sectors) n in
-        let l : e < fileSectors s = omega (arith, some-sectors s (h .packed) (h .«grain_size») e (room .low)) in
+        let l : e < fileSectors s = omega (arith, some-sectors s (h .packed) (h .«grain_size») e (room .sizes .low)) in
         rw (← size-same e l, ← first-same e l)
         (pick-both (SameAnswer s t) _ _ _ _ _ (λ p. refused)
         (λ m. found (source-same (h .packed) (h .«grain_size») o e low i)))))
@@ -200,7 +201,7 @@ module _ (s t : List ℕ) (both : SameSectors s t) where
         let i : u + h .«table_sectors» ≤ fileSectors s = ltb-false (fileSectors s) (u + h .«table_sectors») n in
         rw (← table-same h room u i (g % h .«entries_per_table») (mod-lt g (room .some))) (entry-served _)))
 
-  module _ (h : Header) (room : Roomy h) (x : ℕ) where
+  module _ (h : Header) (room : Sound h) (x : ℕ) where
     -- from the directory entry of x on
     abbrev onward : List ℕ → LookupAnswer
     onward u =
@@ -211,10 +212,10 @@ module _ (s t : List ℕ) (both : SameSectors s t) where
         → SameAnswer s t (onward s) (onward t)
     onward-served low i =
         let g = x / h .«grain_size» in
-        let used : g < grainsOf h = grain-of (h .capacity) (h .«grain_size») (room .low) x low in
-        let d = entry-used (h .capacity) (h .«grain_size») (room .low) (h .«entries_per_table») (room .some) g used in
+        let used : g < grainsOf h = grain-of (h .capacity) (h .«grain_size») (room .sizes .low) x low in
+        let d = entry-used (h .capacity) (h .«grain_size») (room .sizes .low) (h .«entries_per_table») (room .some) g used in
         rw (← directory-same h room (h .directory) i (g / h .«entries_per_table») d)
-        (table-served h room g _ (mod-lt x (room .low)) _)
+        (table-served h room g _ (mod-lt x (room .sizes .low)) _)
 
     in-served : SameAnswer s t (lookupIn s h x) (lookupIn t h x)
     unfolding lookupIn
@@ -228,7 +229,7 @@ module _ (s t : List ℕ) (both : SameSectors s t) where
   from-served : (a : HeaderAnswer) → judge s ≡ a → (x : ℕ) → SameAnswer s t (lookupFrom s x a) (lookupFrom t x a)
   unfolding lookupFrom
   from-served (unknown r) e x = refused
-  from-served (Known h) e x = in-served h (judged-roomy s h e) x
+  from-served (Known h) e x = in-served h (sound-of s h e) x
 
   all-served : (x : ℕ) → SameAnswer s t (sectorLookup s x) (sectorLookup t x)
   all-served x = rw (← judge-same s t both) (from-served (judge s) refl x)

@@ -8,12 +8,13 @@ use Rattle.format.specs.Check.{checkFrom, check}
 use Rattle.format.specs.declared.Header.{Header}
 use Rattle.format.specs.declared.HeaderAnswer.{HeaderAnswer}
 use Rattle.format.specs.declared.HeaderAnswer.the-variants.{Known, Refused}
-use Rattle.format.proofs.HeaderRoom.{Roomy, judged-roomy}
+use Rattle.format.specs.Judged.{Sound}
+use Rattle.format.proofs.HeaderSound.{sound-of}
 use Rattle.format.proofs.Unused.{SameTables, SameInUse, unused-free}
 use Rattle.laws.proofs.NeverUsed.{SameSectors, judge-same, directory-same, table-same, size-same, first-same}
 
 module _ (s t : List ℕ) (both : SameSectors s t) where
-  module _ (h : Header) (room : Roomy h) where
+  module _ (h : Header) (room : Sound h) where
     tables-used : (directory : ℕ) → SameTables s t h directory
     tables-used directory = record {
       entries = directory-same s t both h room directory;
@@ -31,7 +32,7 @@ module _ (s t : List ℕ) (both : SameSectors s t) where
   from-same : (a : HeaderAnswer) → judge s ≡ a → checkFrom s a ≡ checkFrom t a
   unfolding checkFrom
   from-same (Refused r) e = refl
-  from-same (Known h) e = let room = judged-roomy s h e in unused-free s t h (room .low) (room .some) (in-use h room)
+  from-same (Known h) e = let room = sound-of s h e in unused-free s t h (room .sizes .low) (room .some) (in-use h room)
 
   pub never-used-check : check s ≡ check t
   never-used-check = from-same (judge s) refl ∙ ap (checkFrom t) (judge-same s t both)

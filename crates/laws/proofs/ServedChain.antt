@@ -28,7 +28,7 @@ use Rattle.format.specs.declared.ChainAnswer.{ChainAnswer}
 use Rattle.format.specs.declared.ChainAnswer.the-variants.{Found, Refused}
 use Rattle.format.proofs.Picked.{pick-then, pick-else}
 use Rattle.format.proofs.HeaderJudged.{judged-header}
-use Rattle.format.proofs.Layers.{like}
+use Rattle.format.proofs.LayersAt.{like}
 use Rattle.laws.proofs.ServedLookup.{past-in}
 
 -- the one layer is the whole slice

@@ -12,11 +12,11 @@ use Rattle.format.specs.Grains.{Map}
 use Rattle.format.specs.Layout.{tableCount, tablesAt, tablesEnd, sectorV, headerBytes, directoryBytes, tableBytes, gapBytes}
 use Rattle.format.specs.Layout.{grainBytes, layoutOf}
 use Rattle.format.proofs.Lengths.{header-length, directory-length, gap-length, grains-late}
-use Rattle.layout.specs.Parts.{entriesEnd, unused, withFront, entryIn, bytesIn, withGrains}
+use Rattle.layout.specs.WrittenParts.{entriesEnd, unused, withFront, entryIn, bytesIn, withGrains}
 use Rattle.layout.proofs.Apart.{over-swap}
-use Rattle.layout.proofs.Runs.{entries-long}
+use Rattle.layout.proofs.EntryRuns.{entries-long}
 use Rattle.layout.proofs.Padded.{entries-padded}
-use Rattle.layout.proofs.Sizes.{entries-fit, unused-ends, entries-before}
+use Rattle.layout.proofs.PartSizes.{entries-fit, unused-ends, entries-before}
 
 regroup : (h d e x y b t : List ℕ) → t ≡ e ++ x → h ++ d ++ e ++ (x ++ y) ++ b ≡ h ++ d ++ t ++ y ++ b
 regroup h d e x y b t q = rw q (simp append-assoc)

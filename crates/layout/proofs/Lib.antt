@@ -1,9 +1,8 @@
-pub mod Sizes
-pub mod Head
-pub mod Runs
+pub mod PartSizes
+pub mod EntryRuns
 pub mod Padded
 pub mod Clipped
 pub mod Apart
-pub mod Stored
-pub mod Grains
+pub mod StoredGrains
+pub mod GrainsDone
 pub mod Image

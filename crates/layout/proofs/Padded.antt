@@ -16,8 +16,8 @@ use Rattle.base.proofs.Rows.{rows-same}
 use Rattle.format.proofs.Picked.{pick-then, pick-else}
 use Rattle.format.specs.Geometry.{directorySectors}
 use Rattle.format.specs.Layout.{tableCount, tablesAt, directoryBytes}
-use Rattle.layout.proofs.Sizes.{directory-fits}
-use Rattle.layout.proofs.Runs.{entries-long}
+use Rattle.layout.proofs.PartSizes.{directory-fits}
+use Rattle.layout.proofs.EntryRuns.{entries-long}
 
 no-zeros : (d : List ℕ) (n : ℕ) → n ≡ 0 → d ≡ d ++ zeros n
 unfolding zeros

@@ -1,110 +1,43 @@
-// The collapsed layout in lent output: what does not depend on the grains, and one grain. What was written is not read again.
+// Where the parts of a collapsed image of a capacity and grain size stand, and one grain of it written.
 ghost use mathlib.Core.Path.{_≡_};
-ghost use Prim.Native.Nat.{_+_, _*_, _-_, _≤_, _<_, min};
+ghost use Prim.Native.Nat.{_≤_, _*_, _-_, _<_, min};
+ghost use Rattle.format.specs.Layout.{tableCount, tablesAt, tablesEnd, sectorV};
+ghost use Rattle.format.specs.Judged.{Sized};
 ghost use lib.ListN.{length};
 ghost use Rattle.base.specs.Bytes.{over};
-ghost use Rattle.base.specs.Rows.{entryBytes};
 ghost use Rattle.format.specs.Grains.{clip};
-ghost use Rattle.format.specs.Layout.{tablesAt, tablesEnd, sectorV, headerBytes, directoryBytes, gapBytes};
-ghost use Rattle.header.specs.Sized.{Sized};
-ghost use Rattle.layout.specs.Parts.{headerFront, headerBack, entriesEnd, unused, withFront};
-use header::sizes::grains_of;
+use sizes::directory_entries;
+use sizes::directory_sectors;
 
-pub mod places;
-
-use places::sector_v;
-use places::tables_at;
-use places::tables_end;
-use places::tables_of;
-
-// Magic to entries per table.
-fn put_front(out: &mut [u8], capacity: u64, size: u64)
-    requires { ⌜ 48 ≤ length (now out) ⌝ }
-    ensures { λ _. ⌜ now (out .exit) ≡ over (now (out .entry)) 0 (headerFront capacity size) ⌝ }
+pub fn tables_of(capacity: u64, size: u64) -> u64
+    requires { ⌜ Sized capacity size ⌝ }
+    ensures { λ r. ⌜ (r ≡ tableCount capacity size) × (r ≤ 0x80000000) ⌝ }
 {
-    base::copy(&mut *out, 0, b"KDMV", 4);
-    base::put_u32(&mut *out, 4, 2);
-    base::put_u32(&mut *out, 8, 5);
-    base::put_u64(&mut *out, 12, capacity);
-    base::put_u64(&mut *out, 20, size);
-    base::put_u64(&mut *out, 28, 0);
-    base::put_u64(&mut *out, 36, 0);
-    base::put_u32(&mut *out, 44, 512);
+    directory_entries(capacity, 512, size)
 }
 
-// Redundant directory to padding.
-fn put_back(out: &mut [u8], overhead: u64)
-    requires { ⌜ 512 ≤ length (now out) ⌝ }
-    ensures { λ _. ⌜ now (out .exit) ≡ over (now (out .entry)) 48 (headerBack overhead) ⌝ }
+// The sector of the first table.
+pub fn tables_at(capacity: u64, size: u64) -> u64
+    requires { ⌜ Sized capacity size ⌝ }
+    ensures { λ r. ⌜ (r ≡ tablesAt capacity size) × (r ≤ 0x100000000) ⌝ }
 {
-    base::put_u64(&mut *out, 48, 0);
-    base::put_u64(&mut *out, 56, 1);
-    base::put_u64(&mut *out, 64, overhead);
-    base::fill(&mut *out, 72, 1);
-    base::copy(&mut *out, 73, b"\n \r\n", 4);
-    base::fill(&mut *out, 77, 435);
+    1 + directory_sectors(tables_of(capacity, size))
 }
 
-fn write_header(out: &mut [u8], capacity: u64, size: u64)
-    requires { ⌜ Sized capacity size × (512 ≤ length (now out)) ⌝ }
-    ensures { λ _. ⌜ now (out .exit) ≡ over (now (out .entry)) 0 (headerBytes capacity size) ⌝ }
+// The sector after the tables.
+pub fn tables_end(capacity: u64, size: u64) -> u64
+    requires { ⌜ Sized capacity size ⌝ }
+    ensures { λ r. ⌜ (r ≡ tablesEnd capacity size) × (r ≤ 0x400000000) ⌝ }
 {
-    put_front(&mut *out, capacity, size);
-    put_back(&mut *out, sector_v(capacity, size));
+    tables_at(capacity, size) + 4 * tables_of(capacity, size)
 }
 
-// The entries of n tables, of which the first stands at sector `first`.
-fn put_directory(out: &mut [u8], first: u64, n: u64)
-    requires { ⌜ (512 + 4 * n ≤ length (now out)) × (first + 4 * n < 0x10000000000) ⌝ }
-    ensures { λ _. ⌜ now (out .exit) ≡ over (now (out .entry)) 512 (entryBytes n (λ d. first + 4 * d)) ⌝ }
+// V, the sector of the first grain.
+pub fn sector_v(capacity: u64, size: u64) -> u64
+    requires { ⌜ Sized capacity size ⌝ }
+    ensures { λ r. ⌜ (r ≡ sectorV capacity size) × (r ≤ 0x400000800) ⌝ }
 {
-    let mut d: u64 = 0;
-    while d < n {
-        base::put_u32(&mut *out, (512 + 4 * d) as usize, first + 4 * d);
-        d += 1;
-    }
-}
-
-// The directory, unused entries too.
-fn write_directory(out: &mut [u8], capacity: u64, size: u64)
-    requires { ⌜ Sized capacity size × (512 * tablesAt capacity size ≤ length (now out)) ⌝ }
-    ensures { λ _. ⌜ now (out .exit) ≡ over (now (out .entry)) 512 (directoryBytes capacity size) ⌝ }
-{
-    let n = tables_of(capacity, size);
-    let first = tables_at(capacity, size);
-    let used = 512 + 4 * n;
-    put_directory(&mut *out, first, n);
-    base::fill(&mut *out, used as usize, (512 * first - used) as usize);
-}
-
-// The table entries past the last grain.
-fn write_unused(out: &mut [u8], capacity: u64, size: u64)
-    requires { ⌜ Sized capacity size × (512 * tablesEnd capacity size ≤ length (now out)) ⌝ }
-    ensures { λ _. ⌜ now (out .exit) ≡ over (now (out .entry)) (entriesEnd capacity size) (unused capacity size) ⌝ }
-{
-    let used = 512 * tables_at(capacity, size) + 4 * grains_of(capacity, size);
-    let end = 512 * tables_end(capacity, size);
-    base::fill(&mut *out, used as usize, (end - used) as usize);
-}
-
-fn write_gap(out: &mut [u8], capacity: u64, size: u64)
-    requires { ⌜ Sized capacity size × (512 * sectorV capacity size ≤ length (now out)) ⌝ }
-    ensures { λ _. ⌜ now (out .exit) ≡ over (now (out .entry)) (512 * tablesEnd capacity size) (gapBytes capacity size) ⌝ }
-{
-    let from = 512 * tables_end(capacity, size);
-    let end = 512 * sector_v(capacity, size);
-    base::fill(&mut *out, from as usize, (end - from) as usize);
-}
-
-// All that stands before the grains, but for the table entries in use.
-pub fn write_front(out: &mut [u8], capacity: u64, size: u64)
-    requires { ⌜ Sized capacity size × (512 * sectorV capacity size ≤ length (now out)) ⌝ }
-    ensures { λ _. ⌜ now (out .exit) ≡ withFront capacity size (now (out .entry)) ⌝ }
-{
-    write_header(&mut *out, capacity, size);
-    write_directory(&mut *out, capacity, size);
-    write_unused(&mut *out, capacity, size);
-    write_gap(&mut *out, capacity, size);
+    base::ceil_div(tables_end(capacity, size), size) * size
 }
 
 // The bytes of grain g that lie below capacity.

@@ -4,7 +4,7 @@ ghost use mathlib.Core.Path.{_≡_};
 ghost use Rattle.descriptor.specs.Words.{afterWord};
 ghost use Rattle.descriptor.specs.Extents.{accessOf, typeOf, blanksThenDecimalAt, blanksThenDecimal, offsetOf};
 ghost use Rattle.descriptor.specs.Extents.{withName, fromName, withType, fromType, withSectors, fromSectors};
-ghost use Rattle.lines.specs.Bounds.{Within};
+ghost use Rattle.lines.specs.LineBounds.{Within};
 use super::numbers::number_if;
 use super::places::quoted_place;
 use descriptor::Extent;

@@ -4,7 +4,7 @@ ghost use Prim.Native.Nat.{_≤_};
 ghost use lib.ListN.{length};
 ghost use Rattle.descriptor.specs.Words.{noValue, decimal, hex, quotedPlace, quotedLength};
 ghost use Rattle.descriptor.specs.Keys.{keyOf, versionIs, cidIs, createTypeIs, valueOf, withKey, splitAt, keyLine};
-ghost use Rattle.lines.specs.Bounds.{Within};
+ghost use Rattle.lines.specs.LineBounds.{Within};
 use super::numbers::number_if;
 use super::places::quoted_place;
 use descriptor::Line;

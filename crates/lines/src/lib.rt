@@ -1,7 +1,7 @@
 // What one line of a descriptor says: nothing, an extent, a required key, or a refusal.
 ghost use mathlib.Core.Path.{_≡_};
 ghost use Rattle.descriptor.specs.Line.{lineWith, line};
-ghost use Rattle.lines.specs.Bounds.{Within, Bounded};
+ghost use Rattle.lines.specs.LineBounds.{Within, Bounded};
 use descriptor::Line;
 
 mod extents;

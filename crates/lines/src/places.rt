@@ -1,7 +1,7 @@
 // Places in the text.
 ghost use mathlib.Core.Path.{_≡_};
 ghost use Rattle.descriptor.specs.Words.{quotedPlace};
-ghost use Rattle.lines.specs.Bounds.{Within};
+ghost use Rattle.lines.specs.LineBounds.{Within};
 
 // The place of a quoted part is that of the byte after the opening quote, with which w, the end of a line, begins.
 pub fn quoted_place(end: u64, w: &[u8]) -> u64

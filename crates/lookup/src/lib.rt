@@ -1,21 +1,17 @@
-// Where a sector comes from: the lookup, and the grain reader over it. Work does not grow with the image.
+// Where a sector comes from: the lookup. Work does not grow with the image.
 ghost use mathlib.Core.Path.{_≡_};
-ghost use Prim.Native.Nat.{_+_, _/_, _%_, _≤_, _<_};
-ghost use lib.ListN.{length};
-ghost use Rattle.format.specs.Source.{lookupTable, lookupIn, sectorLookup, read, answerPart};
+ghost use Prim.Native.Nat.{_≤_, _<_};
+ghost use Rattle.format.specs.Source.{lookupTable, lookupIn, sectorLookup};
 ghost use Rattle.format.specs.declared.Entry.the-variants.{Sector};
-ghost use Rattle.header.specs.Sized.{Sound};
+ghost use Rattle.format.specs.Judged.{Sound};
 use format::Entry;
 use format::Header;
 use format::HeaderAnswer;
 use format::LookupAnswer;
-use format::Part;
 use format::Refusal;
 use format::Source;
 
-pub mod entries;
 mod grain;
-mod parts;
 
 // The table that a directory entry names, if it names one.
 fn in_table(image: &[u8], h: Header, g: u64, o: u64, t: u64) -> LookupAnswer
@@ -68,25 +64,4 @@ pub fn lookup(image: &[u8], sector: u64) -> LookupAnswer
         HeaderAnswer::Refused(r) => LookupAnswer::Refused(r),
         HeaderAnswer::Known(h) => lookup_in(image, h, sector),
     }
-}
-
-// Where the bytes of that source stand in the image; 0 and 0 where there are none, and on every refusal.
-pub fn part(image: &[u8], sector: u64) -> Part
-    ensures { λ r. ⌜ r ≡ answerPart (sectorLookup (now (image .entry)) sector) ⌝ }
-{
-    let answer = lookup(image, sector);
-    match answer {
-        LookupAnswer::Found(source) => parts::source_part(source),
-        LookupAnswer::Refused(_) => parts::nothing(),
-    }
-}
-
-// Those bytes, as a part of the image itself.
-pub fn read(image: &[u8], sector: u64) -> &[u8]
-    ensures { λ r. ⌜ now r ≡ read (now (image .entry)) sector ⌝ }
-{
-    let part = part(image, sector);
-    let from = part.at as usize;
-    let end = (part.at + part.length) as usize;
-    &image[from..end]
 }

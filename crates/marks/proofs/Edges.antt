@@ -12,8 +12,8 @@ use lib.Bits.{bitAnd, bitOr}
 use Rattle.base.proofs.Steps.{lt-or-ge}
 use Rattle.marks.specs.Marks.{bit, marked, Free, Put, Tested, Mask}
 use Rattle.marks.proofs.Bits.{bit-or, no-common, some-common}
-use Rattle.marks.proofs.Words.{sector-at, set-here, set-there}
-use Rattle.marks.proofs.Runs.{tested-free, tested-taken}
+use Rattle.marks.proofs.BitWords.{sector-at, set-here, set-there}
+use Rattle.marks.proofs.BitRuns.{tested-free, tested-taken}
 
 module _ (ws : List ℕ) (from end base m : ℕ) (aligned : base % 64 ≡ 0) (mask : Mask base from end m) where
   -- ---- tested

@@ -1,6 +1,6 @@
 pub mod Bits
 pub mod Masks
-pub mod Words
-pub mod Runs
+pub mod BitWords
+pub mod BitRuns
 pub mod Edges
 pub mod Wholes

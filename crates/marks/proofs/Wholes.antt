@@ -9,8 +9,8 @@ use mir.Val.{Fits}
 use lib.ListN.{length, getD, set, length-set}
 use Rattle.marks.specs.Marks.{bit, Free, Taken, Put, Tested}
 use Rattle.marks.proofs.Bits.{ones-set, bit-zero, some-bit}
-use Rattle.marks.proofs.Words.{sector-at, set-here, set-there}
-use Rattle.marks.proofs.Runs.{free-join, put-join, taken-widen, tested-free, tested-taken}
+use Rattle.marks.proofs.BitWords.{sector-at, set-here, set-there}
+use Rattle.marks.proofs.BitRuns.{free-join, put-join, taken-widen, tested-free, tested-taken}
 
 -- ---- word j
 module _ (ws : List ℕ) (j : ℕ) where

@@ -1,7 +1,3 @@
-pub mod Runs
 pub mod Told
 pub mod Windows
-pub mod Marked
-pub mod Named
-pub mod Grains
-pub mod Placed
+pub mod Grouped

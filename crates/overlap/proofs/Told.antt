@@ -10,8 +10,8 @@ use Rattle.base.proofs.Steps.{lt-or-ge}
 use Rattle.format.specs.Areas.{Area, holders}
 use Rattle.format.proofs.Areas.{holds-in, holds-under, holds-over}
 use Rattle.marks.specs.Marks.{marked, Free, Put}
-use Rattle.marks.proofs.Words.{none-marked}
-use Rattle.overlap.specs.Run.{low, high, Run, done, next, met, Window}
+use Rattle.marks.proofs.BitWords.{none-marked}
+use Rattle.window.specs.Run.{low, high, Run, done, next, met, Window}
 
 -- in the window each sector is marked as often as areas hold it: so no two of them share a sector there
 abbrev Stands : List ℕ → ℕ → List Area → Type 0

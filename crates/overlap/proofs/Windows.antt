@@ -10,8 +10,8 @@ use Rattle.format.specs.Geometry.{fileSectors}
 use Rattle.format.specs.Areas.{Area, holders, areas, meet}
 use Rattle.format.specs.declared.Header.{Header}
 use Rattle.format.proofs.Areas.{two-meet, apart-meet, past-none}
-use Rattle.overlap.specs.Run.{Window}
-use Rattle.overlap.specs.Placed.{InFile}
+use Rattle.window.specs.Run.{Window}
+use Rattle.overlap.specs.InFile.{InFile}
 
 -- no sector below lo lies in two areas
 pub record Clear (l : List Area) (lo : ℕ) : Type 0 where

@@ -1,3 +1,1 @@
-pub mod Run
-pub mod Named
-pub mod Placed
+pub mod InFile

@@ -4,18 +4,14 @@ ghost use Prim.Native.Nat.{_-_};
 ghost use Rattle.format.specs.Geometry.{fileSectors};
 ghost use Rattle.format.specs.Header.{directoryEntriesOf};
 ghost use Rattle.format.specs.Areas.{redundantTables, grainAreas, areas, meet};
-ghost use Rattle.overlap.specs.Run.{Run, Counted, Window};
-ghost use Rattle.overlap.specs.Placed.{InFile, headAreas, directoryAreas, frontAreas, tablesOfBoth, backAreas, Ends};
+ghost use Rattle.window.specs.Run.{Run, Counted, Window};
+ghost use Rattle.overlap.specs.InFile.{InFile, headAreas, directoryAreas, frontAreas, tablesOfBoth, backAreas, Ends};
+use entries::file_sectors;
 use format::Header;
-use header::sizes::directory_entries;
-use header::sizes::grains_of;
-use lookup::entries::file_sectors;
-
-mod entries;
-mod window;
-
-use entries::mark_grains;
-use entries::mark_tables;
+use named::mark_grains;
+use named::mark_tables;
+use sizes::directory_entries;
+use sizes::grains_of;
 use window::mark_area;
 use window::mark_if;
 

@@ -11,7 +11,7 @@ use Rattle.descriptor.specs.declared.Line.{Line}
 use Rattle.descriptor.specs.declared.State.{State}
 use Rattle.descriptor.specs.declared.Parsed.{Parsed}
 use Rattle.descriptor.specs.Descriptor.{state, skipped, opened, added, noted, taken}
-use Rattle.text.specs.Bounds.{Few}
+use Rattle.text.specs.StateBounds.{Few}
 
 -- ---- a line that says something is skipped first, then what it says is put down
 module _ (s st : State) (q : s ≡ skipped st) where

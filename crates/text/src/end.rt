@@ -1,7 +1,7 @@
 // The end of a text: what only all lines together can tell.
 ghost use mathlib.Core.Path.{_≡_};
 ghost use Rattle.descriptor.specs.Descriptor.{missing, extentsBad, judgedEnd, ended};
-ghost use Rattle.text.specs.Bounds.{Few};
+ghost use Rattle.text.specs.StateBounds.{Few};
 use super::state::refused;
 use descriptor::State;
 

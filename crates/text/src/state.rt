@@ -2,8 +2,8 @@
 ghost use mathlib.Core.Path.{_≡_};
 ghost use Prim.Native.Nat.{_+_, _≤_, _<_};
 ghost use Rattle.descriptor.specs.Descriptor.{start, refused, skipped, opened, added, noted, once, taken};
-ghost use Rattle.lines.specs.Bounds.{Bounded};
-ghost use Rattle.text.specs.Bounds.{Few};
+ghost use Rattle.lines.specs.LineBounds.{Bounded};
+ghost use Rattle.text.specs.StateBounds.{Few};
 use descriptor::Extent;
 use descriptor::Line;
 use descriptor::State;

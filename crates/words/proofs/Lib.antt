@@ -1,3 +1,3 @@
-pub mod Runs
-pub mod Parts
-pub mod Numbers
+pub mod WordRuns
+pub mod WordParts
+pub mod Numerals

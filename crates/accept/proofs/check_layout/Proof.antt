@@ -1,4 +1,5 @@
-use Rattle.accept.proofs.Checked.{sound-of, placed-of}
+use Rattle.format.proofs.HeaderSound.{sound-of}
+use Rattle.accept.proofs.Checked.{placed-of}
 use Rattle.format.specs.Check.{checkLayout}
 use Rattle.base.proofs.Steps.{steps}
 use borrow.Author.Needs.{needs}

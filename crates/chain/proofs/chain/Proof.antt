@@ -1,6 +1,6 @@
 use Rattle.format.specs.Chain.{chainLookup}
 use Rattle.base.proofs.Steps.{steps}
-use Rattle.chain.proofs.Sums.{laid-of}
+use Rattle.lengths.proofs.Sums.{laid-of}
 use borrow.Author.Needs.{needs}
 use Rattle.chain.proofs.chain.Statement.{statement}
 use Rattle.chain.proofs.chain.Tie as tie

@@ -2,8 +2,9 @@ use mathlib.Core.Path.{_≡_, refl}
 use borrow.Author.Needs.{needs}
 use lib.ListN.{length}
 use Rattle.format.specs.Chain.{headersDown, walk}
-use Rattle.chain.specs.Layers.{Ends, HeadedFrom}
-use Rattle.chain.proofs.Sums.{ends-all}
+use Rattle.lengths.specs.Laid.{Ends}
+use Rattle.chain.specs.LayerSteps.{HeadedFrom}
+use Rattle.lengths.proofs.Sums.{ends-all}
 use Rattle.chain.proofs.Down.{ends-here, next-fits, next-ends, header-refused, header-known, headed-all, headed-down}
 use Rattle.chain.proofs.Down.{headed-none, headers-end}
 use Rattle.chain.proofs.headers_down.Statement.{statement}

@@ -1,4 +1,4 @@
-use Rattle.chain.proofs.Sums.{layer-fits, layer-is}
+use Rattle.lengths.proofs.Sums.{layer-fits, layer-is}
 use Rattle.format.specs.Header.{judge}
 use mathlib.Core.Path.{ap, _∙_}
 use borrow.Author.Needs.{needs}

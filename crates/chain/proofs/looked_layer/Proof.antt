@@ -1,5 +1,5 @@
 use Rattle.chain.proofs.Down.{looked-as}
-use Rattle.chain.proofs.Sums.{layer-fits, layer-is}
+use Rattle.lengths.proofs.Sums.{layer-fits, layer-is}
 use borrow.Author.Needs.{needs}
 use Rattle.chain.proofs.looked_layer.Statement.{statement}
 use Rattle.chain.proofs.looked_layer.Tie as tie

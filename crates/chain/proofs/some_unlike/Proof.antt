@@ -4,8 +4,8 @@ use lib.ListN.{length}
 use Rattle.format.specs.Header.{headerOf}
 use Rattle.format.specs.Entries.{anyBelow}
 use Rattle.format.specs.Chain.{layerAt, unlike}
-use Rattle.chain.specs.Layers.{Ends}
-use Rattle.chain.proofs.Sums.{ends-all}
+use Rattle.lengths.specs.Laid.{Ends}
+use Rattle.lengths.proofs.Sums.{ends-all}
 use Rattle.chain.proofs.Down.{ends-here, next-fits, next-ends, some-here, some-below, some-end}
 use Rattle.chain.proofs.some_unlike.Statement.{statement}
 use Rattle.chain.proofs.some_unlike.Tie as tie

@@ -1,5 +1,5 @@
 use Rattle.chain.proofs.Down.{step-as, step-found}
-use Rattle.chain.specs.Layers.{stepOf}
+use Rattle.chain.specs.LayerSteps.{stepOf}
 use borrow.Author.Needs.{needs}
 use Rattle.chain.proofs.step_of.Statement.{statement}
 use Rattle.chain.proofs.step_of.Tie as tie

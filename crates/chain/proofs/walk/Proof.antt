@@ -1,4 +1,4 @@
-use Rattle.header.proofs.Sound.{judged-header}
+use Rattle.header.proofs.HeaderAnswered.{judged-header}
 use Rattle.chain.proofs.Down.{first-ends, never-unknown}
 use borrow.Author.Needs.{needs}
 use Rattle.chain.proofs.walk.Statement.{statement}

@@ -2,8 +2,8 @@ use mathlib.Core.Path.{_≡_, refl}
 use borrow.Author.Needs.{needs}
 use lib.ListN.{length}
 use Rattle.format.specs.Chain.{walkDown}
-use Rattle.chain.specs.Layers.{Ends}
-use Rattle.chain.proofs.Sums.{ends-all}
+use Rattle.lengths.specs.Laid.{Ends}
+use Rattle.lengths.proofs.Sums.{ends-all}
 use Rattle.chain.proofs.Down.{ends-here, next-fits, next-ends, walk-answer, walk-below, walk-end}
 use Rattle.chain.proofs.walk_down.Statement.{statement}
 use Rattle.chain.proofs.walk_down.Tie as tie

@@ -1,5 +1,5 @@
 use Rattle.collapse.proofs.Checks.{layers-of}
-use Rattle.collapse.proofs.Answers.{not-taken, not-alike, then-fitted}
+use Rattle.collapse.proofs.CollapseSteps.{not-taken, not-alike, then-fitted}
 use borrow.Author.Needs.{needs}
 use Rattle.collapse.proofs.collapse_layers.Statement.{statement}
 use Rattle.collapse.proofs.collapse_layers.Tie as tie

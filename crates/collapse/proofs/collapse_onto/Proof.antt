@@ -1,5 +1,5 @@
 use Rattle.collapse.proofs.Checks.{checked-of}
-use Rattle.collapse.proofs.Answers.{unknown-refused, known-on, layers-as}
+use Rattle.collapse.proofs.CollapseSteps.{unknown-refused, known-on, layers-as}
 use borrow.Author.Needs.{needs}
 use Rattle.collapse.proofs.collapse_onto.Statement.{statement}
 use Rattle.collapse.proofs.collapse_onto.Tie as tie

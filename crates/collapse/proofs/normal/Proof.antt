@@ -1,5 +1,5 @@
 use Rattle.collapse.proofs.Checks.{checked-of}
-use Rattle.collapse.proofs.Answers.{unknown-refused, known-on, normal-as, told-left}
+use Rattle.collapse.proofs.CollapseSteps.{unknown-refused, known-on, normal-as, told-left}
 use borrow.Author.Needs.{needs}
 use Rattle.collapse.proofs.normal.Statement.{statement}
 use Rattle.collapse.proofs.normal.Tie as tie

@@ -1,4 +1,4 @@
-use Rattle.collapse.proofs.Answers.{rooms}
+use Rattle.collapse.proofs.CollapseSteps.{rooms}
 use borrow.Author.Needs.{needs}
 use Rattle.collapse.proofs.write_fitted.Statement.{statement}
 use Rattle.collapse.proofs.write_fitted.Tie as tie

@@ -1,4 +1,4 @@
-use Rattle.lines.proofs.Bounds.{bounded}
+use Rattle.lines.proofs.LineBounds.{bounded}
 use borrow.Author.Needs.{needs}
 use Rattle.lines.proofs.line.Statement.{statement}
 use Rattle.lines.proofs.line.Tie as tie

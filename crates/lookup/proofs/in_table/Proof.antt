@@ -1,4 +1,4 @@
-use Rattle.lookup.proofs.Laws.{table-read}
+use Rattle.lookup.proofs.LookupLaws.{table-read}
 use Rattle.format.specs.Source.{lookupTable}
 use Rattle.base.proofs.Steps.{steps}
 use borrow.Author.Needs.{needs}

@@ -1,5 +1,5 @@
-use Rattle.header.proofs.Sound.{judged-sound}
-use Rattle.lookup.proofs.Laws.{judged-as}
+use Rattle.header.proofs.HeaderAnswered.{judged-sound}
+use Rattle.lookup.proofs.LookupLaws.{judged-as}
 use Rattle.format.specs.Source.{lookupFrom}
 use borrow.Author.Needs.{needs}
 use Rattle.lookup.proofs.lookup.Statement.{statement}

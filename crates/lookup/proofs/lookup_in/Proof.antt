@@ -1,4 +1,4 @@
-use Rattle.lookup.proofs.Laws.{directory-read, grain-small, sector-of}
+use Rattle.lookup.proofs.LookupLaws.{directory-read, grain-small, sector-of}
 use Rattle.format.specs.Source.{lookupIn}
 use Rattle.base.proofs.Steps.{steps}
 use borrow.Author.Needs.{needs}

@@ -1,4 +1,4 @@
-use Rattle.lookup.proofs.Laws.{table-as}
+use Rattle.lookup.proofs.LookupLaws.{table-as}
 use Rattle.format.specs.Source.{lookupTable}
 use borrow.Author.Needs.{needs}
 use Rattle.lookup.proofs.lookup_table.Statement.{statement}

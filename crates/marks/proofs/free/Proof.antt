@@ -1,6 +1,6 @@
 -- `free`: three runs, each where the last one ends.
 use borrow.Author.Needs.{needs}
-use Rattle.marks.proofs.Runs.{tested-three}
+use Rattle.marks.proofs.BitRuns.{tested-three}
 use Rattle.marks.proofs.free.Statement.{statement}
 use Rattle.marks.proofs.free.Tie as tie
 

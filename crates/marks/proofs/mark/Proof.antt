@@ -1,6 +1,6 @@
 -- `mark`: the run is tested, and marked only where it was free.
 use borrow.Author.Needs.{needs}
-use Rattle.marks.proofs.Runs.{marking-done, marking-refused}
+use Rattle.marks.proofs.BitRuns.{marking-done, marking-refused}
 use Rattle.marks.proofs.mark.Statement.{statement}
 use Rattle.marks.proofs.mark.Tie as tie
 

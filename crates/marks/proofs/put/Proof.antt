@@ -1,6 +1,6 @@
 -- `put`: three runs, each where the last one ends.
 use borrow.Author.Needs.{needs}
-use Rattle.marks.proofs.Runs.{put-three}
+use Rattle.marks.proofs.BitRuns.{put-three}
 use Rattle.marks.proofs.put.Statement.{statement}
 use Rattle.marks.proofs.put.Tie as tie
 

@@ -4,7 +4,7 @@ use mathlib.Core.Path.{_≡_}
 use native.Mathlib.Omega.{arith}
 use borrow.Author.Needs.{needs}
 use Rattle.marks.specs.Marks.{Put}
-use Rattle.marks.proofs.Runs.{put-none}
+use Rattle.marks.proofs.BitRuns.{put-none}
 use Rattle.marks.proofs.Edges.{edge-put, edge-done}
 use Rattle.marks.proofs.put_edge.Statement.{statement}
 use Rattle.marks.proofs.put_edge.Tie as tie

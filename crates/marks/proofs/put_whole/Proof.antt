@@ -3,7 +3,7 @@ use Prim.Native.Nat.{_*_, _-_, _≤_}
 use native.Mathlib.Omega.{arith}
 use borrow.Author.Needs.{needs}
 use Rattle.marks.specs.Marks.{Put}
-use Rattle.marks.proofs.Runs.{put-none}
+use Rattle.marks.proofs.BitRuns.{put-none}
 use Rattle.marks.proofs.Wholes.{whole-put, whole-done}
 use Rattle.marks.proofs.put_whole.Statement.{statement}
 use Rattle.marks.proofs.put_whole.Tie as tie

@@ -1,7 +1,7 @@
 -- `mark_all`: four calls, left where one met; their groups are the list of areas.
 use borrow.Author.Needs.{needs}
-use Rattle.overlap.proofs.Placed.{areas-grouped, fixed-ends}
-use Rattle.overlap.proofs.Runs.{calls}
+use Rattle.overlap.proofs.Grouped.{areas-grouped, fixed-ends}
+use Rattle.window.proofs.RunLaws.{calls}
 use Rattle.overlap.proofs.mark_all.Statement.{statement}
 use Rattle.overlap.proofs.mark_all.Tie as tie
 

@@ -1,6 +1,6 @@
 -- `mark_all_grains`: the number of grains, and the loop over their tables.
 use Rattle.format.specs.Geometry.{grains}
-use Rattle.overlap.proofs.Placed.{grained, grains-run}
+use Rattle.overlap.proofs.Grouped.{grained, grains-run}
 use borrow.Author.Needs.{needs}
 use Rattle.overlap.proofs.mark_all_grains.Statement.{statement}
 use Rattle.overlap.proofs.mark_all_grains.Tie as tie

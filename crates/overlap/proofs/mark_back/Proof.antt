@@ -1,5 +1,5 @@
 -- `mark_back`: two calls, left where one met.
-use Rattle.overlap.proofs.Placed.{back-stop, back-all}
+use Rattle.overlap.proofs.Grouped.{back-stop, back-all}
 use borrow.Author.Needs.{needs}
 use Rattle.overlap.proofs.mark_back.Statement.{statement}
 use Rattle.overlap.proofs.mark_back.Tie as tie

@@ -1,5 +1,5 @@
 -- `mark_copies`: nothing, or the tables of the redundant directory.
-use Rattle.overlap.proofs.Placed.{copies-listed, copies-none, copies-some}
+use Rattle.overlap.proofs.Grouped.{copies-listed, copies-none, copies-some}
 use borrow.Author.Needs.{needs}
 use Rattle.overlap.proofs.mark_copies.Statement.{statement}
 use Rattle.overlap.proofs.mark_copies.Tie as tie

@@ -1,6 +1,6 @@
 -- `mark_directories`: two calls, left where one met.
-use Rattle.overlap.specs.Placed.{directoryAreas}
-use Rattle.overlap.proofs.Runs.{calls}
+use Rattle.overlap.specs.InFile.{directoryAreas}
+use Rattle.window.proofs.RunLaws.{calls}
 use borrow.Author.Needs.{needs}
 use Rattle.overlap.proofs.mark_directories.Statement.{statement}
 use Rattle.overlap.proofs.mark_directories.Tie as tie

@@ -1,7 +1,7 @@
 -- `mark_front`: two calls, left where one met.
 use borrow.Author.Needs.{needs}
-use Rattle.overlap.specs.Placed.{frontAreas}
-use Rattle.overlap.proofs.Runs.{calls}
+use Rattle.overlap.specs.InFile.{frontAreas}
+use Rattle.window.proofs.RunLaws.{calls}
 use Rattle.overlap.proofs.mark_front.Statement.{statement}
 use Rattle.overlap.proofs.mark_front.Tie as tie
 

@@ -1,6 +1,6 @@
 -- `mark_head`: two calls, left where one met.
-use Rattle.overlap.specs.Placed.{headAreas}
-use Rattle.overlap.proofs.Runs.{calls}
+use Rattle.overlap.specs.InFile.{headAreas}
+use Rattle.window.proofs.RunLaws.{calls}
 use borrow.Author.Needs.{needs}
 use Rattle.overlap.proofs.mark_head.Statement.{statement}
 use Rattle.overlap.proofs.mark_head.Tie as tie

@@ -1,7 +1,7 @@
 -- `mark_tables_of_both`: two calls, left where one met.
-use Rattle.overlap.specs.Placed.{tablesOfBoth}
-use Rattle.overlap.proofs.Runs.{calls}
-use Rattle.overlap.proofs.Placed.{tables-listed, tables-run}
+use Rattle.overlap.specs.InFile.{tablesOfBoth}
+use Rattle.window.proofs.RunLaws.{calls}
+use Rattle.overlap.proofs.Grouped.{tables-listed, tables-run}
 use borrow.Author.Needs.{needs}
 use Rattle.overlap.proofs.mark_tables_of_both.Statement.{statement}
 use Rattle.overlap.proofs.mark_tables_of_both.Tie as tie

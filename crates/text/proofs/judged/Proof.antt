@@ -1,7 +1,7 @@
 use Prim.Native.Nat.{_≤_, _-_, _+_}
 use borrow.Author.Needs.{needs}
 use lib.ListN.{length}
-use Rattle.text.specs.Bounds.{Few}
+use Rattle.text.specs.StateBounds.{Few}
 use Rattle.text.proofs.Lines.{Left, left-start, left-more, left-stop, left-end}
 use Rattle.text.proofs.judged.Statement.{statement}
 use Rattle.text.proofs.judged.Tie as tie

@@ -1,5 +1,5 @@
 use borrow.Author.Needs.{needs}
-use Rattle.words.proofs.Parts.{part-from, part-past, part-short}
+use Rattle.words.proofs.WordParts.{part-from, part-past, part-short}
 use Rattle.words.proofs.after.Statement.{statement}
 use Rattle.words.proofs.after.Tie as tie
 

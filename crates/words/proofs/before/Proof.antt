@@ -1,5 +1,5 @@
 use borrow.Author.Needs.{needs}
-use Rattle.words.proofs.Parts.{front-long, front-short}
+use Rattle.words.proofs.WordParts.{front-long, front-short}
 use Rattle.words.proofs.before.Statement.{statement}
 use Rattle.words.proofs.before.Tie as tie
 

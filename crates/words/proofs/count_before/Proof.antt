@@ -3,7 +3,7 @@ use Prim.Native.Nat.{_≤_, _-_}
 use borrow.Author.Needs.{needs}
 use native.Mathlib.Nat.{zero-add}
 use lib.ListN.{length}
-use Rattle.words.proofs.Runs.{Run, run-here, run-more, run-end}
+use Rattle.words.proofs.WordRuns.{Run, run-here, run-more, run-end}
 use Rattle.words.proofs.count_before.Statement.{statement}
 use Rattle.words.proofs.count_before.Tie as tie
 

@@ -3,7 +3,7 @@ use Prim.Native.Nat.{_≤_}
 use mathlib.Core.Path.{refl}
 use borrow.Author.Needs.{needs}
 use lib.ListN.{length}
-use Rattle.words.proofs.Runs.{Kept, kept-here, kept-less, kept-none}
+use Rattle.words.proofs.WordRuns.{Kept, kept-here, kept-less, kept-none}
 use Rattle.words.proofs.kept.Statement.{statement}
 use Rattle.words.proofs.kept.Tie as tie
 

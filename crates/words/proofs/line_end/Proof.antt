@@ -1,5 +1,5 @@
 use borrow.Author.Needs.{needs}
-use Rattle.words.proofs.Parts.{end-inside}
+use Rattle.words.proofs.WordParts.{end-inside}
 use Rattle.words.proofs.line_end.Statement.{statement}
 use Rattle.words.proofs.line_end.Tie as tie
 

@@ -3,7 +3,7 @@ use Prim.Native.Nat.{_≤_, _-_, _<_, _^_}
 use mathlib.Core.Path.{refl}
 use borrow.Author.Needs.{needs}
 use lib.ListN.{length}
-use Rattle.words.proofs.Numbers.{Digits, digits-bad, digits-more, digits-all, grown, sum-fits, times-fits}
+use Rattle.words.proofs.Numerals.{Digits, digits-bad, digits-more, digits-all, grown, sum-fits, times-fits}
 use Rattle.words.proofs.numeral_from.Statement.{statement}
 use Rattle.words.proofs.numeral_from.Tie as tie
 

@@ -1,5 +1,5 @@
 use borrow.Author.Needs.{needs}
-use Rattle.words.proofs.Parts.{part-from, part-short}
+use Rattle.words.proofs.WordParts.{part-from, part-short}
 use Rattle.words.proofs.rest.Statement.{statement}
 use Rattle.words.proofs.rest.Tie as tie
 

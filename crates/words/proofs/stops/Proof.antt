@@ -1,5 +1,5 @@
 use borrow.Author.Needs.{needs}
-use Rattle.words.proofs.Runs.{stops-as}
+use Rattle.words.proofs.WordRuns.{stops-as}
 use Rattle.words.proofs.stops.Statement.{statement}
 use Rattle.words.proofs.stops.Tie as tie
 

@@ -1,6 +1,6 @@
 use Rattle.descriptor.specs.Keys.{splitAt}
 use borrow.Author.Needs.{needs}
-use Rattle.words.proofs.Parts.{front-long}
+use Rattle.words.proofs.WordParts.{front-long}
 use Rattle.lines.proofs.keys.split_at.Statement.{statement}
 use Rattle.lines.proofs.keys.split_at.Tie as tie
 

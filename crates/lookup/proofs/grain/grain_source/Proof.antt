@@ -1,4 +1,4 @@
-use Rattle.lookup.proofs.Laws.{packed-source}
+use Rattle.lookup.proofs.LookupLaws.{packed-source}
 use Rattle.format.specs.Source.{grainSource}
 use Rattle.base.proofs.Steps.{steps}
 use borrow.Author.Needs.{needs}

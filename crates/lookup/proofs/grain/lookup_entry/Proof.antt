@@ -1,4 +1,4 @@
-use Rattle.lookup.proofs.Laws.{entry-as}
+use Rattle.lookup.proofs.LookupLaws.{entry-as}
 use Rattle.format.specs.Source.{lookupEntry}
 use borrow.Author.Needs.{needs}
 use Rattle.lookup.proofs.grain.lookup_entry.Statement.{statement}

@@ -1,4 +1,4 @@
-use Rattle.lookup.proofs.Laws.{grain-read}
+use Rattle.entries.proofs.EntriesRead.{grain-read}
 use Rattle.format.specs.Source.{lookupGrain}
 use Rattle.base.proofs.Steps.{steps}
 use borrow.Author.Needs.{needs}

@@ -1,5 +1,5 @@
 use Rattle.text.proofs.States.{taken-as}
-use Rattle.lines.proofs.Bounds.{sectors-bounded, number-bounded}
+use Rattle.lines.proofs.LineBounds.{sectors-bounded, number-bounded}
 use borrow.Author.Needs.{needs}
 use Rattle.text.proofs.state.taken.Statement.{statement}
 use Rattle.text.proofs.state.taken.Tie as tie

@@ -1,0 +1,11 @@
+use borrow.Author.Needs.{needs}
+use Rattle.cowd.proofs.sizes_broken.Statement.{statement}
+use Rattle.cowd.proofs.sizes_broken.Tie as tie
+
+pub sizes-broken-spec : {M : Type 1} → statement M
+sizes-broken-spec =
+    tie.close
+    (tie.spec
+    (λ capacity-broken-requires κs. search needs)
+    (λ grain-size-broken-requires κs. search needs)
+    (λ returns. cc))

@@ -1,0 +1,3 @@
+pub mod GrainsLeft
+pub mod GrainsRule
+pub mod GrainsWalk

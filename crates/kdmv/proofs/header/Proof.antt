@@ -1,0 +1,13 @@
+use Rattle.format.specs.Header.{kdmvHeader}
+use borrow.Author.Needs.{needs}
+use Rattle.kdmv.proofs.header.Statement.{statement}
+use Rattle.kdmv.proofs.header.Tie as tie
+
+pub header-spec : {M : Type 1} → statement M
+unfolding kdmvHeader
+header-spec =
+    tie.close
+    (tie.spec
+    (λ directory-entries-requires κs. search needs)
+    (λ directory-sectors-requires κs. search needs)
+    (λ returns. cc))

@@ -1,0 +1,10 @@
+use borrow.Author.Needs.{needs}
+use Rattle.lengths.proofs.lengths_broken.Statement.{statement}
+use Rattle.lengths.proofs.lengths_broken.Tie as tie
+
+pub lengths-broken-spec : {M : Type 1} → statement M
+lengths-broken-spec =
+    tie.close
+    (tie.spec
+    (λ sum-is-requires κs. search needs)
+    (λ returns. cc))

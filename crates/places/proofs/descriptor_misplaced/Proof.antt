@@ -1,0 +1,11 @@
+use borrow.Author.Needs.{needs}
+use Rattle.places.proofs.descriptor_misplaced.Statement.{statement}
+use Rattle.places.proofs.descriptor_misplaced.Tie as tie
+
+pub descriptor-misplaced-spec : {M : Type 1} → statement M
+descriptor-misplaced-spec =
+    tie.close
+    (tie.spec
+    (λ file-sectors-requires κs. search needs)
+    (λ ends-past-requires κs. search needs)
+    (λ returns. cc))

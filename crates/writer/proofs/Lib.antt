@@ -1,0 +1,2 @@
+pub mod GrainPut
+pub mod Loops
