@@ -23,6 +23,7 @@ pub mod CollapsedSectors
 pub mod CollapsedChain
 pub mod CollapsedServed
 pub mod CollapsedAnswer
+pub mod Runs
 pub mod ExtentsLaid
 pub mod ExtentsLines
 pub mod ExtentsRead
