@@ -23,6 +23,7 @@ pub mod CollapsedSectors
 pub mod CollapsedChain
 pub mod CollapsedServed
 pub mod CollapsedAnswer
+pub mod CollapsedSelf
 pub mod Runs
 pub mod ExtentsLaid
 pub mod ExtentsLines
@@ -30,4 +31,6 @@ pub mod ExtentsRead
 pub mod Extents
 pub mod NeverUsed
 pub mod NeverUsedCheck
+pub mod NeverUsedChain
+pub mod NeverUsedCollapse
 pub mod NotConstant
