@@ -128,7 +128,7 @@ module _ (s t : List ℕ) (h : Header) (one : 1 ≤ h .«grain_size») (per : 1 
           → SameEntries s t u (entriesInUse h d)
       in-primary d u l e = same .primary .tables d u l e (table-in s _ _ _ _ (p .tables) d u l e)
 
-      entry-same : (g : ℕ) → g < grainsOf h → grainEntry s h g ≡ grainEntry t h g
+      pub entry-same : (g : ℕ) → g < grainsOf h → grainEntry s h g ≡ grainEntry t h g
       unfolding entryOfGrain inTable
       entry-same g l =
           let d = g / h .«entries_per_table» in

@@ -49,7 +49,7 @@ written-long room n long e =
     let q : long ≡ n = cc in
     (q, rw q (ltb-false _ _ (r .0)))
 
-own-layer : (s : List ℕ) (c size : ℕ) → check s ≡ Accepted c size → notCollapsible (headerOf s) ≡ false
+pub own-layer : (s : List ℕ) (c size : ℕ) → check s ≡ Accepted c size → notCollapsible (headerOf s) ≡ false
     → Layer (headerOf s .capacity) (headerOf s .«grain_size») s
 own-layer s c size e n =
     let r = accepted-sound s c size e in record { accepted = rw (r .1, r .2) at e; collapsible = n }

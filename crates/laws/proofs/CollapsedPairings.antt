@@ -17,11 +17,11 @@ module _ {P : List ℕ → Type 0} where
   only : {s : List ℕ} → Every P (s ∷ []) → P s
   only (more p none) = p
 
-  front : (l k : List (List ℕ)) → Every P (l ++ k) → Every P l
+  pub front : (l k : List (List ℕ)) → Every P (l ++ k) → Every P l
   front [] k e = none
   front (s ∷ l) k (more p e) = more p (front l k e)
 
-  back : (l k : List (List ℕ)) → Every P (l ++ k) → Every P k
+  pub back : (l k : List (List ℕ)) → Every P (l ++ k) → Every P k
   back [] k e = e
   back (s ∷ l) k (more p e) = back l k e
 

@@ -23,10 +23,14 @@ pub mod CollapsedSectors
 pub mod CollapsedChain
 pub mod CollapsedServed
 pub mod CollapsedAnswer
+pub mod CollapsedSelf
+pub mod Runs
 pub mod ExtentsLaid
 pub mod ExtentsLines
 pub mod ExtentsRead
 pub mod Extents
 pub mod NeverUsed
 pub mod NeverUsedCheck
+pub mod NeverUsedChain
+pub mod NeverUsedCollapse
 pub mod NotConstant

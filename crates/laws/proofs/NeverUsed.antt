@@ -5,7 +5,7 @@ use mathlib.Core.List.{List, [], _∷_}
 use mathlib.Core.Bool.{Bool, true, false}
 use native.Mathlib.Omega.{arith}
 use native.Mathlib.Nat.{mod-lt}
-use lib.ListN.{length, getD, drop, length-take, length-drop}
+use lib.ListN.{length, drop, length-take, length-drop}
 use lib.Seq.{getD-take, getD-drop, ext-getD}
 use borrow.Author.Tests.{ltb-false, leb-false}
 use Rattle.base.specs.Pick.{pick}
@@ -17,10 +17,11 @@ use Rattle.base.proofs.Steps.{pick-both}
 use Rattle.format.specs.Geometry.{fileSectors, bytesAt}
 use Rattle.format.specs.Kdmv.{kdmvMagic, newlineBytes, kdmvFields, footerAt, lastAt, footerBroken}
 use Rattle.format.specs.Cowd.{cowdMagic, cowdFields}
-use Rattle.format.specs.Header.{directoryOf, grainsOf, directoryEntriesOf, withFooter, judgeKdmv, judgeCowd, judge}
+use Rattle.format.specs.Header.{directoryOf, headerOf, grainsOf, directoryEntriesOf, withFooter, judgeKdmv, judgeCowd, judge}
 use Rattle.format.specs.Entries.{entryAt, meaningAt, markerFirst, markerSize, grainSectors, markerBroken}
 use Rattle.format.specs.Source.{grainSource, lookupGrain, lookupEntry, lookupTable, lookupIn, lookupFrom, sectorLookup}
 use Rattle.format.specs.Source.{sourceBytes, answerBytes, read}
+use Rattle.format.specs.declared.KdmvFields.{KdmvFields}
 use Rattle.format.specs.declared.Header.{Header}
 use Rattle.format.specs.declared.Entry.{Entry}
 use Rattle.format.specs.declared.Entry.the-variants.{Absent, Zero, Sector}
@@ -37,12 +38,7 @@ use Rattle.format.proofs.Entries.{some-sectors, past-same}
 use Rattle.format.specs.Judged.{Sound}
 use Rattle.format.proofs.HeaderSound.{sound-of}
 use Rattle.format.proofs.Places.{directory-in}
-
--- agreement in length and in every byte of the F whole sectors, of which there is one at least
-pub record SameSectors (s t : List ℕ) : Type 0 where
-  pub long : length s ≡ length t
-  pub some : 1 ≤ fileSectors s
-  pub same : (i : ℕ) → i < 512 * fileSectors s → getD s i 0 ≡ getD t i 0
+use Rattle.laws.specs.NeverUsed.{SameSectors}
 
 -- ---- what is read below 512 x F: numbers, comparisons and parts
 module _ (s t : List ℕ) (both : SameSectors s t) where
@@ -114,16 +110,26 @@ module _ (s t : List ℕ) (both : SameSectors s t) where
         both .long,
       )
 
-  pub judge-same : judge s ≡ judge t
-  unfolding judge judgeKdmv judgeCowd withFooter directoryOf
-  judge-same =
+  footer-directory-same : (k : KdmvFields) → directoryOf s k ≡ directoryOf t k
+  unfolding directoryOf
+  footer-directory-same k = rw (le-same (footerAt s + 56) 8 (omega (arith, both .some)), both .long)
+
+  pub header-same : headerOf s ≡ headerOf t
+  unfolding headerOf
+  header-same =
+      let f : 512 ≤ 512 * fileSectors s = omega (arith, both .some) in
+      rw (string-same 0 kdmvMagic (omega arith), kdmv-same, cowd-same, footer-directory-same)
+
+  pub never-used-header : judge s ≡ judge t
+  unfolding judge judgeKdmv judgeCowd withFooter
+  never-used-header =
       let f : 512 ≤ 512 * fileSectors s = omega (arith, both .some) in
       rw (
         string-same 0 kdmvMagic (omega arith),
         string-same 0 cowdMagic (omega arith),
         kdmv-same,
         cowd-same,
-        le-same (footerAt s + 56) 8 (omega (arith, both .some)),
+        footer-directory-same,
         footer-same,
         both .long,
       )
@@ -232,7 +238,7 @@ module _ (s t : List ℕ) (both : SameSectors s t) where
   from-served (Known h) e x = in-served h (sound-of s h e) x
 
   all-served : (x : ℕ) → SameAnswer s t (sectorLookup s x) (sectorLookup t x)
-  all-served x = rw (← judge-same s t both) (from-served (judge s) refl x)
+  all-served x = rw (← never-used-header s t both) (from-served (judge s) refl x)
 
   pub never-used-lookup : (x : ℕ) → sectorLookup s x ≡ sectorLookup t x
   never-used-lookup x = answer-same (all-served x)

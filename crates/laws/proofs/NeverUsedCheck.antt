@@ -11,7 +11,8 @@ use Rattle.format.specs.declared.HeaderAnswer.the-variants.{Known, Refused}
 use Rattle.format.specs.Judged.{Sound}
 use Rattle.format.proofs.HeaderSound.{sound-of}
 use Rattle.format.proofs.Unused.{SameTables, SameInUse, unused-free}
-use Rattle.laws.proofs.NeverUsed.{SameSectors, judge-same, directory-same, table-same, size-same, first-same}
+use Rattle.laws.specs.NeverUsed.{SameSectors}
+use Rattle.laws.proofs.NeverUsed.{never-used-header, directory-same, table-same, size-same, first-same}
 
 module _ (s t : List ℕ) (both : SameSectors s t) where
   module _ (h : Header) (room : Sound h) where
@@ -21,7 +22,7 @@ module _ (s t : List ℕ) (both : SameSectors s t) where
       tables = λ d u l e i k b. table-same s t both h room u i k (omega arith);
     }
 
-    in-use : SameInUse s t h
+    pub in-use : SameInUse s t h
     in-use = record {
       long = both .long;
       primary = tables-used (h .directory);
@@ -35,4 +36,4 @@ module _ (s t : List ℕ) (both : SameSectors s t) where
   from-same (Known h) e = let room = sound-of s h e in unused-free s t h (room .sizes .low) (room .some) (in-use h room)
 
   pub never-used-check : check s ≡ check t
-  never-used-check = from-same (judge s) refl ∙ ap (checkFrom t) (judge-same s t both)
+  never-used-check = from-same (judge s) refl ∙ ap (checkFrom t) (never-used-header s t both)

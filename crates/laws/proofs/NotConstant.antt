@@ -1,89 +1,116 @@
--- No constant answer meets the contract of a public call: for each there are two inputs whose answers differ.
-use Prim.Native.Nat.{ℕ}
-use mathlib.Core.Path.{_≡_, sym, ap, _∙_}
+-- No constant answer meets the contract of a public call: for each there are two inputs whose answers differ, one of them a
+-- refusal and the other not.
+use Prim.Native.Nat.{ℕ, _≤_}
+use mathlib.Core.Path.{_≡_, refl, sym, ap, _∙_}
 use mathlib.Core.List.{List, [], _∷_}
 use native.Mathlib.Omega.{arith}
+use lib.ListN.{length}
 use Rattle.base.specs.Pick.{pick}
 use Rattle.base.specs.Rounding.{powerUpTo}
 use Rattle.base.specs.Numbers.{leAt, leBytes}
-use Rattle.base.specs.Strings.{sameAt}
+use Rattle.base.specs.Strings.{sameAt, sameWord, ascii}
 use Rattle.base.specs.Bytes.{zeros}
+use Rattle.base.specs.Rows.{rows}
 use Rattle.format.specs.Geometry.{grains, directoryEntries, directorySectors}
 use Rattle.format.specs.Kdmv.{kdmvFields, kdmvFault}
-use Rattle.format.specs.Header.{kdmvHeader, directoryOf, unlessFault, withFooter, judgeKdmv, judge}
-use Rattle.format.specs.Entries.{meaning, inTable, entryOfGrain, grainSectors}
-use Rattle.format.specs.Check.{checkFrom, check}
+use Rattle.format.specs.Header.{kdmvHeader, directoryOf, headerOf, unlessFault, withFooter, judgeKdmv, judge}
+use Rattle.format.specs.Entries.{meaning, inTable, entryOfGrain, grainSectors, anyBelow}
+use Rattle.format.specs.Areas.{ifThere, named, redundantTables, areas, runsPast, shares, sharesAny, meet}
+use Rattle.format.specs.Check.{misplaced, lowestFrom, copiesDiffer, unlessGrain, checkApart, checkCopies}
+use Rattle.format.specs.Check.{checkGrains, checkLayout, checkFrom, check}
 use Rattle.format.specs.Source.{grainSource, lookupGrain, lookupEntry, lookupTable, lookupIn, lookupFrom, sectorLookup}
 use Rattle.format.specs.Source.{answerPart}
-use Rattle.format.specs.Chain.{lengthsSum, ifKnown, headersDown, chainLookup}
-use Rattle.format.specs.Collapse.{ifAccepted, normal, collapse}
+use Rattle.format.specs.Chain.{lengthsSum, unlike, ifKnown, headersDown, unlessAbsent, walkDown, walk, chainLookup}
+use Rattle.format.specs.Grains.{upperUnlessAbsent, grainFrom, oneIfStored, storedBelow}
+use Rattle.format.specs.Layout.{tableCount, tablesAt, tablesEnd, sectorV, layoutLength}
+use Rattle.format.specs.Collapse.{ifAccepted, writtenIfRoom, normalFrom, normal, collapseFrom, collapse}
 use Rattle.format.specs.Answers.{headerNumbers, verdict, located, chained, written}
 use Rattle.format.specs.declared.Head.{Head}
 use Rattle.format.specs.declared.Verdict.{Verdict}
 use Rattle.format.specs.declared.Located.{Located}
 use Rattle.format.specs.declared.Part.{Part}
 use Rattle.format.specs.declared.Written.{Written}
-use Rattle.format.proofs.Images.{small}
+use Rattle.format.proofs.Images.{kdmvSector, small}
 use Rattle.descriptor.specs.declared.Described.{Described}
 use Rattle.descriptor.specs.declared.Extent.{Extent}
 use Rattle.descriptor.specs.declared.Found.{Found}
-use Rattle.descriptor.specs.Words.{countBefore, kept}
+use Rattle.descriptor.specs.Words.{countBefore, kept, digitValue, numeralFrom, numeral, toQuoteAt, quotedLength}
 use Rattle.descriptor.specs.Text.{linesFrom}
-use Rattle.descriptor.specs.Descriptor.{refused, skipped, judgedLine, step, ended, judged, judgedText, readText}
-use Rattle.descriptor.specs.Records.{handed, answered, descriptorAnswer, foundFrom, findAnswer}
+use Rattle.descriptor.specs.Extents.{accessOf, typeOf, extent, withType, withSectors}
+use Rattle.descriptor.specs.Keys.{keyOf, versionIs, cidIs, createTypeIs, valueOf, withKey, splitAt}
+use Rattle.descriptor.specs.Line.{lineWith}
+use Rattle.descriptor.specs.Descriptor.{noExtent, refused, skipped, opened, added, noted, once, judgedLine, step, judgedEnd}
+use Rattle.descriptor.specs.Descriptor.{ended, judged, judgedText, readText}
+use Rattle.descriptor.specs.Records.{accepted, handed, answered, descriptorAnswer, foundFrom, findAnswer}
 
--- a number of the answer differs for two inputs, so no r is the answer for all of them
-differ : {A B : Type 0} (f : A → B) (n : B → ℕ) (x y : A) → (n (f x) ≡ n (f y) → ⊥) → (r : B) → ((z : A) → r ≡ f z) → ⊥
-differ f n x y d r same = d (ap n (sym (same x) ∙ same y))
+-- a number of the answer is 0 for nothing and a for x, so no r is the answer for both
+differ : {A B : Type 0} (f : List A → B) (n : B → ℕ) (x : List A) (a : ℕ) → 1 ≤ a → n (f []) ≡ 0 → n (f x) ≡ a → (r : B)
+    → ((z : List A) → r ≡ f z) → ⊥
+differ f n x a some p q r same = omega (arith, sym p ∙ ap n (sym (same []) ∙ same x) ∙ q)
 
--- ---- images: no bytes are 1, four zero bytes are 2
+-- ---- images: no bytes are refused, and then each number but the refusal's is 0
+-- an accepted image of capacity 16
 pub check-varies : (r : Verdict) → ((s : List ℕ) → r ≡ verdict (check s)) → ⊥
-unfolding pick zeros sameAt judge checkFrom
-check-varies = differ (λ s. verdict (check s)) (λ (v : Verdict). v .number) [] (zeros 4) (λ e. omega arith)
+unfolding pick powerUpTo leAt leBytes sameAt zeros grains directoryEntries directorySectors kdmvFields kdmvFault kdmvHeader directoryOf unlessFault withFooter judgeKdmv judge rows meaning inTable entryOfGrain ifThere named redundantTables areas runsPast shares sharesAny meet misplaced lowestFrom copiesDiffer unlessGrain checkApart checkCopies checkGrains checkLayout checkFrom
+check-varies = differ (λ s. verdict (check s)) (λ (v : Verdict). v .capacity) (small 0 0 0 0) 16 (omega arith) refl refl
 
+-- its header
 pub header-varies : (r : Head) → ((s : List ℕ) → r ≡ headerNumbers (judge s)) → ⊥
-unfolding pick zeros sameAt judge
-header-varies = differ (λ s. headerNumbers (judge s)) (λ (v : Head). v .number) [] (zeros 4) (λ e. omega arith)
+unfolding pick powerUpTo leAt leBytes sameAt zeros kdmvFields kdmvFault kdmvHeader unlessFault withFooter judgeKdmv judge
+header-varies =
+    differ (λ s. headerNumbers (judge s)) (λ (v : Head). v .capacity) (kdmvSector 16 8 1) 16 (omega arith) refl refl
 
+-- a sector that is stored, kind 2
 pub lookup-varies : (r : Located) → ((s : List ℕ) (x : ℕ) → r ≡ located (sectorLookup s x)) → ⊥
-unfolding pick zeros sameAt judge lookupFrom
+unfolding pick powerUpTo leAt leBytes sameAt zeros directoryEntries directorySectors kdmvFields kdmvFault kdmvHeader directoryOf unlessFault withFooter judgeKdmv judge meaning grainSectors grainSource lookupGrain lookupEntry lookupTable lookupIn lookupFrom
 lookup-varies r same =
-    differ (λ s. located (sectorLookup s 0)) (λ (v : Located). v .number) [] (zeros 4) (λ e. omega arith) r (λ s. same s 0)
-
--- no layers are 24, one layer of no bytes is 1
-pub chain-varies : (r : Located) → ((s lengths : List ℕ) (x : ℕ) → r ≡ chained (chainLookup s lengths x)) → ⊥
-unfolding pick judge lengthsSum ifKnown headersDown chainLookup
-chain-varies r same =
-    differ (λ l. chained (chainLookup [] l 0)) (λ (v : Located). v .number) [] (0 ∷ []) (λ e. omega arith) r (λ l. same [] l 0)
-
--- no bytes are handed out of no image, 512 where the sector is stored
-pub read-varies : (r : Part) → ((s : List ℕ) (x : ℕ) → r ≡ answerPart (sectorLookup s x)) → ⊥
-unfolding pick powerUpTo leAt leBytes sameAt zeros grains directoryEntries directorySectors kdmvFields kdmvFault kdmvHeader directoryOf unlessFault withFooter judgeKdmv judge meaning inTable entryOfGrain grainSectors grainSource lookupGrain lookupEntry lookupTable lookupIn lookupFrom
-read-varies r same =
-    differ (λ s. answerPart (sectorLookup s 0)) (λ (v : Part). v .length) [] (small 8 0 0 10) (λ e. omega arith) r
+    differ (λ s. located (sectorLookup s 0)) (λ (v : Located). v .kind) (small 6 0 0 8) 2 (omega arith) refl refl r
     (λ s. same s 0)
 
+-- its 512 bytes
+pub read-varies : (r : Part) → ((s : List ℕ) (x : ℕ) → r ≡ answerPart (sectorLookup s x)) → ⊥
+unfolding pick powerUpTo leAt leBytes sameAt zeros directoryEntries directorySectors kdmvFields kdmvFault kdmvHeader directoryOf unlessFault withFooter judgeKdmv judge meaning grainSectors grainSource lookupGrain lookupEntry lookupTable lookupIn lookupFrom
+read-varies r same =
+    differ (λ s. answerPart (sectorLookup s 0)) (λ (v : Part). v .length) (small 6 0 0 8) 512 (omega arith) refl refl r
+    (λ s. same s 0)
+
+-- the same sector, the image being a chain's only layer
+pub chain-varies : (r : Located) → ((s lengths : List ℕ) (x : ℕ) → r ≡ chained (chainLookup s lengths x)) → ⊥
+unfolding pick powerUpTo leAt leBytes sameAt zeros directoryEntries directorySectors kdmvFields kdmvFault kdmvHeader directoryOf unlessFault withFooter judgeKdmv judge meaning grainSectors grainSource lookupGrain lookupEntry lookupTable lookupIn lookupFrom headerOf anyBelow lengthsSum unlike ifKnown headersDown unlessAbsent walkDown walk chainLookup
+chain-varies r same =
+    differ (λ s. chained (chainLookup s (length s ∷ []) 0)) (λ (v : Located). v .kind) (small 6 0 0 8) 2 (omega arith) refl refl
+    r
+    (λ s. same s (length s ∷ []) 0)
+
+-- eight sectors are written, for which there is room
 pub normal-varies : (r : Written) → ((s : List ℕ) (room : ℕ) → r ≡ written (normal s room)) → ⊥
-unfolding pick zeros sameAt judge checkFrom ifAccepted
+unfolding pick powerUpTo leAt leBytes sameAt zeros grains directoryEntries directorySectors kdmvFields kdmvFault kdmvHeader directoryOf unlessFault withFooter judgeKdmv judge rows meaning inTable entryOfGrain ifThere named redundantTables areas runsPast shares sharesAny meet misplaced lowestFrom copiesDiffer unlessGrain checkApart checkCopies checkGrains checkLayout checkFrom headerOf grainFrom oneIfStored storedBelow tableCount tablesAt tablesEnd sectorV layoutLength ifAccepted writtenIfRoom normalFrom
 normal-varies r same =
-    differ (λ s. written (normal s 0)) (λ (v : Written). v .number) [] (zeros 4) (λ e. omega arith) r (λ s. same s 0)
+    differ (λ s. written (normal s 4096)) (λ (v : Written). v .length) (small 0 0 0 0) 4096 (omega arith) refl refl r
+    (λ s. same s 4096)
 
 pub collapse-varies : (r : Written) → ((lower upper : List ℕ) (room : ℕ) → r ≡ written (collapse lower upper room)) → ⊥
-unfolding pick zeros sameAt judge checkFrom ifAccepted
+unfolding pick powerUpTo leAt leBytes sameAt zeros grains directoryEntries directorySectors kdmvFields kdmvFault kdmvHeader directoryOf unlessFault withFooter judgeKdmv judge rows meaning inTable entryOfGrain ifThere named redundantTables areas runsPast shares sharesAny meet misplaced lowestFrom copiesDiffer unlessGrain checkApart checkCopies checkGrains checkLayout checkFrom headerOf grainFrom oneIfStored storedBelow tableCount tablesAt tablesEnd sectorV layoutLength ifAccepted writtenIfRoom upperUnlessAbsent unlike collapseFrom
 collapse-varies r same =
-    differ (λ s. written (collapse s [] 0)) (λ (v : Written). v .number) [] (zeros 4) (λ e. omega arith) r (λ s. same s [] 0)
+    differ (λ s. written (collapse s s 4096)) (λ (v : Written). v .length) (small 0 0 0 0) 4096 (omega arith) refl refl r
+    (λ s. same s s 4096)
 
--- ---- descriptors: no bytes are 30, a byte that is not zero after one that is is 31
+-- ---- descriptors: no bytes are refused; a text with one extent is not, where the list has a record for it
 pub descriptor-varies : (r : Described) → ((s : List ℕ) (list : List Extent) → r ≡ descriptorAnswer s list) → ⊥
-unfolding pick countBefore kept linesFrom refused skipped judgedLine step ended judged judgedText readText handed answered
+unfolding pick sameWord countBefore kept digitValue numeralFrom numeral toQuoteAt quotedLength linesFrom accessOf typeOf extent withType withSectors keyOf versionIs cidIs createTypeIs valueOf withKey splitAt lineWith refused skipped opened added noted once judgedLine step judgedEnd ended judged judgedText readText accepted handed answered
 descriptor-varies r same =
-    differ (λ s. descriptorAnswer s []) (λ (v : Described). v .number) [] (0 ∷ 1 ∷ []) (λ e. omega arith) r (λ s. same s [])
+    differ (λ s. descriptorAnswer s (noExtent ∷ [])) (λ (v : Described). v .extents) text 1 (omega arith) refl refl r
+    (λ s. same s (noExtent ∷ []))
+  where
+    text : List ℕ
+    text = ascii "# Disk DescriptorFile\nversion=1\nCID=1\nparentCID=1\ncreateType=\"\"\nRW 1 ZERO"
 
--- no record holds a sector of an empty list, the first one its own
+-- no record of an empty list holds a sector; of this one the record 1 does
 pub find-varies : (r : Found) → ((list : List Extent) (sector : ℕ) → r ≡ findAnswer list sector) → ⊥
 unfolding pick foundFrom
 find-varies r same =
-    differ (λ list. findAnswer list 0) (λ (v : Found). v .number) [] (first ∷ []) (λ e. omega arith) r (λ list. same list 0)
+    differ (λ list. findAnswer list 1) (λ (v : Found). v .extent) (one 0 ∷ one 1 ∷ []) 1 (omega arith) refl refl r
+    (λ list. same list 1)
   where
-    first : Extent
-    first = record { first = 0; sectors = 1; access = 1; kind = 1; «name_at» = 0; «name_length» = 1; offset = 0 }
+    one : ℕ → Extent
+    one first = record { first = first; sectors = 1; access = 1; kind = 5; «name_at» = 0; «name_length» = 0; offset = 0 }

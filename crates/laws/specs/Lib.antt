@@ -1,2 +1,4 @@
 pub mod Layers
 pub mod Served
+pub mod Runs
+pub mod NeverUsed

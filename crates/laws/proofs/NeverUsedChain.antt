@@ -1,0 +1,47 @@
+-- The chain lookup never uses a layer's bytes from 512 x F on: slices whose layers agree below them have the same answers.
+use Prim.Native.Nat.{ℕ, zero, suc, _≤_, _<_}
+use mathlib.Core.Path.{_≡_, refl}
+use mathlib.Core.List.{List}
+use native.Mathlib.Omega.{arith}
+use lib.Dec.{eqb}
+use lib.ListN.{length}
+use borrow.Author.Tests.{eqb-false}
+use Rattle.base.proofs.Steps.{or-no, pick-both}
+use Rattle.format.specs.Header.{headerOf}
+use Rattle.format.specs.Chain.{layerAt, headersDown, layersDiffer, walkDown, walk, chainLookup}
+use Rattle.format.specs.declared.ChainAnswer.{ChainAnswer}
+use Rattle.format.proofs.Entries.{some-same}
+use Rattle.laws.specs.NeverUsed.{SameLayers}
+use Rattle.laws.proofs.NeverUsed.{header-same, never-used-header, never-used-lookup}
+
+module _ (s t lengths : List ℕ) (both : SameLayers s t lengths) where
+  head-same : (k : ℕ) → k < length lengths → headerOf (layerAt s lengths k) ≡ headerOf (layerAt t lengths k)
+  head-same k l = header-same _ _ (both .each k l)
+
+  headers-same : (n : ℕ) → n ≤ length lengths → (a : ChainAnswer) → headersDown s lengths n a ≡ headersDown t lengths n a
+  unfolding headersDown
+  headers-same zero l a = refl
+  headers-same (suc n) l a =
+      rw (never-used-header _ _ (both .each n (omega arith)), headers-same n (omega arith) a)
+
+  differ-same : 1 ≤ length lengths → layersDiffer s lengths ≡ layersDiffer t lengths
+  differ-same some = some-same _ _ (length lengths) (λ k l. rw (head-same 0 some, head-same k l))
+
+  walk-down-same : (x n : ℕ) → n ≤ length lengths → walkDown s lengths x n ≡ walkDown t lengths x n
+  unfolding walkDown
+  walk-down-same x zero l = refl
+  walk-down-same x (suc n) l =
+      rw (never-used-lookup _ _ (both .each n (omega arith)) x, walk-down-same x n (omega arith))
+
+  walk-same : 1 ≤ length lengths → (x : ℕ) → walk s lengths x ≡ walk t lengths x
+  unfolding walk
+  walk-same some x = rw (differ-same some, head-same 0 some, walk-down-same x (length lengths) (omega arith))
+
+  pub never-used-chain : (x : ℕ) → chainLookup s lengths x ≡ chainLookup t lengths x
+  unfolding chainLookup
+  never-used-chain x =
+      rw (← both .long)
+      (pick-both _≡_ _ _ _ _ _ (λ q. refl)
+      (λ n.
+      let some = eqb-false (length lengths) 0 (or-no (eqb (length lengths) 0) _ n .0) in
+      rw (walk-same (omega arith) x, headers-same (length lengths) (omega arith))))
