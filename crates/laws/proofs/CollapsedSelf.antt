@@ -15,7 +15,7 @@ use Rattle.format.specs.declared.CheckAnswer.{CheckAnswer}
 use Rattle.format.specs.declared.CheckAnswer.the-variants.{Accepted, Refused as unaccepted}
 use Rattle.format.specs.declared.CollapseAnswer.{CollapseAnswer}
 use Rattle.format.proofs.Grains.{onto-self}
-use Rattle.format.proofs.Layers.{like}
+use Rattle.format.proofs.LayersAt.{like}
 
 merge-self : (m : Map) → merge m m ≡ m
 merge-self m = fun-ext (λ g. onto-self (m g))

@@ -180,7 +180,8 @@ module _ (s t : List ℕ) (both : SameSectors s t) where
     grain-served : (e : ℕ) → SameAnswer s t (lookupGrain s h g o e) (lookupGrain t h g o e)
     unfolding lookupGrain markerBroken grainSource
     grain-served e =
-        rw (← both .long, ← past-same (h .packed) (h .«grain_size») e (room .sizes .low) s t (fileSectors s) (λ l p. size-same e l))
+        let some = room .sizes .low in
+        rw (← both .long, ← past-same (h .packed) (h .«grain_size») e some s t (fileSectors s) (λ l p. size-same e l))
         (pick-both (SameAnswer s t) _ _ _ _ _ (λ p. refused)
         (λ n.
         let sectors = grainSectors s (h .packed) (h .«grain_size») e in

@@ -27,7 +27,7 @@ use Rattle.format.proofs.Inside.{named-in}
 use Rattle.format.proofs.Grains.{clip-same}
 use Rattle.format.proofs.LowestGrain.{none-lowest}
 use Rattle.format.proofs.Passed.{layout-passed}
-use Rattle.format.proofs.Layers.{alike}
+use Rattle.format.proofs.LayersAt.{alike}
 use Rattle.format.proofs.Places.{places-kept}
 use Rattle.format.proofs.Unused.{entry-same}
 use Rattle.laws.specs.Layers.{Layer, SameGrains}
@@ -70,7 +70,7 @@ module _ (s t : List ℕ) (both : SameSectors s t) where
         let found = layout-passed s h c size (rw (good .known) at (p .accepted)) in
         let placed = places-kept s h (found .places) in
         let used : g < grainsOf h = rw (capacity-is p, size-is p) l in
-        let same = entry-same s t h (room .low) (room .some) (in-use s t both h room) placed g used in
+        let same = entry-same s t h (room .sizes .low) (room .some) (in-use s t both h room) placed g used in
         let inside = none-lowest (grainPast s h) (grainsOf h) (found .grains) g used in
         rw (← header-same s t both, ← same)
         (grain-same (h .capacity) (h .«grain_size») g (grainEntry s h g) (rw (unpacked p) at inside))

@@ -1,7 +1,8 @@
 -- `mark_grains`: the invariant says that the tables before d are marked.
 use Prim.Native.Nat.{_-_}
 use borrow.Author.Needs.{needs}
-use Rattle.named.proofs.NamedGrains.{Tables, tables-start, tables-entry, tables-table, tables-more, tables-met, tables-all}
+use Rattle.named.proofs.NamedGrains.{Tables, tables-start, tables-entry, tables-table}
+use Rattle.named.proofs.NamedGrains.{tables-more, tables-met, tables-all}
 use Rattle.named.proofs.mark_grains.Statement.{statement}
 use Rattle.named.proofs.mark_grains.Tie as tie
 
