@@ -8,26 +8,21 @@ ghost use Prim.Native.Nat.{_≤_, _<_};
 ghost use lib.ListN.{length};
 use libc::STDIN_FILENO;
 
-mod images;
-mod pairings;
-mod texts;
-mod writes;
-
 // What is asked of a case once.
 fn ask(what: u64, lengths: &[u8], bytes: &[u8], out: &mut [u8])
     requires { ⌜ length (now lengths) ≤ 136 ⌝ }
 {
     if what == 0 {
-        images::image(bytes);
-        writes::normal(bytes, &mut *out);
+        cases_images::image(bytes);
+        cases_images::normal(bytes, &mut *out);
         return;
     }
     if what == 2 {
-        pairings::pairings(bytes, lengths, &mut *out);
+        cases_pairings::pairings(bytes, lengths, &mut *out);
         return;
     }
     if what == 3 {
-        texts::text(bytes);
+        cases_texts::text(bytes);
     }
 }
 
@@ -36,18 +31,18 @@ fn ask_sector(what: u64, lengths: &[u8], bytes: &[u8], sector: u64)
     requires { ⌜ length (now lengths) ≤ 136 ⌝ }
 {
     if what == 1 {
-        images::look_down(bytes, lengths, sector);
+        cases_images::look_down(bytes, lengths, sector);
         return;
     }
     if what == 3 {
-        texts::find_in_text(bytes, sector);
+        cases_texts::find_in_text(bytes, sector);
         return;
     }
     if what == 4 {
-        texts::find(bytes, sector);
+        cases_texts::find(bytes, sector);
         return;
     }
-    images::look(bytes, sector);
+    cases_images::look(bytes, sector);
 }
 
 fn ask_sectors(what: u64, lengths: &[u8], bytes: &[u8], sectors: &[u8])

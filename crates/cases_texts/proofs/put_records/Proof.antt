@@ -1,7 +1,7 @@
 use Prim.Native.Nat.{_≤_, _-_}
 use borrow.Author.Needs.{needs}
-use Rattle.cases.proofs.texts.put_records.Statement.{statement}
-use Rattle.cases.proofs.texts.put_records.Tie as tie
+use Rattle.cases_texts.proofs.put_records.Statement.{statement}
+use Rattle.cases_texts.proofs.put_records.Tie as tie
 
 abbrev Inv-loop : tie.InvT-loop
 Inv-loop p i₀ i = i ≤ 32

@@ -1,4 +1,4 @@
-// The descriptor's two calls.
+// The descriptor's two calls, told in lines.
 ghost use Prim.Native.Nat.{_+_, _≤_};
 ghost use lib.ListN.{length};
 use descriptor::Described;

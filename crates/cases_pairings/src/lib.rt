@@ -1,7 +1,6 @@
 // The collapse in every order of pairing neighbours, a line each; a layer alone is put into normal form.
 ghost use Prim.Native.Nat.{_≤_};
 ghost use lib.ListN.{length};
-use crate::writes;
 
 // A pairing on the way: how many bytes its result has, none on a refusal.
 fn pair(lower: &[u8], upper: &[u8], out: &mut [u8]) -> usize
@@ -17,9 +16,9 @@ fn pair(lower: &[u8], upper: &[u8], out: &mut [u8]) -> usize
 
 fn three(a: &[u8], b: &[u8], c: &[u8], x: &mut [u8], out: &mut [u8]) {
     let n = pair(a, b, &mut *x);
-    writes::collapse(&x[0..n], c, &mut *out);
+    cases_images::collapse(&x[0..n], c, &mut *out);
     let n = pair(b, c, &mut *x);
-    writes::collapse(a, &x[0..n], &mut *out);
+    cases_images::collapse(a, &x[0..n], &mut *out);
 }
 
 // (a b) first
@@ -59,11 +58,11 @@ fn run_layers(
     out: &mut [u8],
 ) {
     if layers == 1 {
-        writes::normal(a, &mut *out);
+        cases_images::normal(a, &mut *out);
         return;
     }
     if layers == 2 {
-        writes::collapse(a, b, &mut *out);
+        cases_images::collapse(a, b, &mut *out);
         return;
     }
     if layers == 3 {

@@ -2,8 +2,8 @@ use Prim.Native.Nat.{_≤_, _-_}
 use mathlib.Core.Path.{_≡_}
 use lib.ListN.{length}
 use borrow.Author.Needs.{needs}
-use Rattle.cases.proofs.texts.records_of.Statement.{statement}
-use Rattle.cases.proofs.texts.records_of.Tie as tie
+use Rattle.cases_texts.proofs.records_of.Statement.{statement}
+use Rattle.cases_texts.proofs.records_of.Tie as tie
 
 abbrev Inv-loop : tie.InvT-loop
 Inv-loop bytes records₀ i₀ records i = (i ≤ 32) × (1792 ≤ length bytes) × (32 ≡ length records)

@@ -1,6 +1,7 @@
-// The calls on one image, and on a chain.
+// The calls on one image and on a chain, and the calls that write, each told in a line.
 ghost use Prim.Native.Nat.{_≤_};
 ghost use lib.ListN.{length};
+use format::CollapseAnswer;
 use format::Head;
 use format::Verdict;
 
@@ -55,4 +56,38 @@ pub fn look_down(layers: &[u8], lengths: &[u8], sector: u64)
         b"chain ",
         answers::chained_of(chain::chain(layers, &all[0..n], sector)),
     );
+}
+
+// What an output holds before a call: it shows which bytes were not written.
+fn fill(out: &mut [u8]) {
+    let n = out.len();
+    let mut i = 0;
+    while i < n {
+        out[i] = 170;
+        i += 1;
+    }
+}
+
+// Number, place, length, and the digest of the whole output.
+fn put_answer(a: CollapseAnswer, out: &[u8]) {
+    let w = answers::written_of(a);
+    programs::put(w.number);
+    programs::put(w.place);
+    programs::put(w.length);
+    programs::put(programs::digest(out));
+    programs::end();
+}
+
+pub fn normal(image: &[u8], out: &mut [u8]) {
+    programs::start(b"normal ");
+    fill(&mut *out);
+    let a = collapse::normal(image, &mut *out);
+    put_answer(a, out);
+}
+
+pub fn collapse(lower: &[u8], upper: &[u8], out: &mut [u8]) {
+    programs::start(b"collapse ");
+    fill(&mut *out);
+    let a = collapse::collapse(lower, upper, &mut *out);
+    put_answer(a, out);
 }

@@ -2,8 +2,8 @@ use Prim.Native.Nat.{_≤_, _-_}
 use mathlib.Core.Path.{_≡_}
 use lib.ListN.{length}
 use borrow.Author.Needs.{needs}
-use Rattle.cases.proofs.writes.fill.Statement.{statement}
-use Rattle.cases.proofs.writes.fill.Tie as tie
+use Rattle.cases_images.proofs.fill.Statement.{statement}
+use Rattle.cases_images.proofs.fill.Tie as tie
 
 abbrev Inv-loop : tie.InvT-loop
 Inv-loop out₀ n i₀ out i = (i ≤ n) × (n ≡ length out)
