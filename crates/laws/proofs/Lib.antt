@@ -23,6 +23,8 @@ pub mod CollapsedSectors
 pub mod CollapsedChain
 pub mod CollapsedServed
 pub mod CollapsedAnswer
+pub mod ExampleLayers
+pub mod ExampleLayersMaps
 pub mod ExtentsLaid
 pub mod ExtentsLines
 pub mod ExtentsRead
