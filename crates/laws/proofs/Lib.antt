@@ -25,6 +25,7 @@ pub mod CollapsedServed
 pub mod CollapsedAnswer
 pub mod ExampleLayers
 pub mod ExampleLayersMaps
+pub mod ExampleLayersCollapsed
 pub mod ExtentsLaid
 pub mod ExtentsLines
 pub mod ExtentsRead
