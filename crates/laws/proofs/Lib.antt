@@ -25,6 +25,9 @@ pub mod CollapsedServed
 pub mod CollapsedAnswer
 pub mod CollapsedSelf
 pub mod Runs
+pub mod ExampleLayers
+pub mod ExampleLayersMaps
+pub mod ExampleLayersCollapsed
 pub mod ExtentsLaid
 pub mod ExtentsLines
 pub mod ExtentsRead

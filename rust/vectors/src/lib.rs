@@ -1,5 +1,5 @@
 //! What is stored for the program crates: an input made from a seed, and the outputs that the programs must print, as the plain
-//! implementation has them. Nothing here calls the proved library.
+//! implementation has them; of one example both are literal bytes. Nothing here calls the proved library.
 
 pub mod cases;
 mod checks;

@@ -27,6 +27,10 @@ pub fn all(root: &Path) -> io::Result<Vec<Stored>> {
         let lines = cases::output(&fs::read(root.join(&path))?);
         add(format!("{path}.lines"), lines.into_bytes());
     }
+    // Written out by hand, and the loop above has said what the plain implementation answers.
+    let path = "tests/cases/layers".to_string();
+    add(format!("{path}.lines"), cases::layers::lines().into_bytes());
+    add(path, cases::layers::input());
     for name in programs(root)? {
         let path = format!("crates/{name}/stdin");
         let input = if name == "cases" {

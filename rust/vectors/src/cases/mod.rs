@@ -5,6 +5,7 @@
 
 mod answer;
 mod choose;
+pub mod layers;
 mod record;
 
 use crate::input::Input;
