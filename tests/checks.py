@@ -1,12 +1,11 @@
 #!/usr/bin/env python3
 """Writes the inputs that the program `vmdk_check` is run on, and the line that it must print for each: tests/checks/NAME and
-NAME.line.
+NAME.line. checks.py [FOLDER] writes them below another folder than tests.
 
 Each verdict is document 01's, written down by hand: a case at least for each refusal number that the program can give, both
 sides of each edge.
 """
-import pathlib
-
+from asked import main
 from images import ALL_ONES, FOOTER, PACKED, SECTOR, STREAM, cowd, entries, image, kdmv, marker, small, stream
 
 CASES = {}
@@ -127,8 +126,8 @@ accepted("full-buffer", small(8, 0, sectors=128))
 refused("over-full", small(8, 0, sectors=128) + b"\0", 37)
 
 
-def main():
-    folder = pathlib.Path(__file__).resolve().parent / "checks"
+def write(folder):
+    folder = folder / "checks"
     folder.mkdir(exist_ok=True)
     for old in folder.iterdir():
         old.unlink()
@@ -138,4 +137,5 @@ def main():
     print(f"{len(CASES)} inputs, {sum(len(d) for d, _ in CASES.values())} bytes")
 
 
-main()
+if __name__ == "__main__":
+    main(write)
