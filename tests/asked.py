@@ -3,7 +3,9 @@ import pathlib
 import struct
 import sys
 
-CHAIN, COLLAPSE, TEXT, LOOKUPS = 1, 2, 3, 5
+CHAIN, COLLAPSE, TEXT, FIND, LOOKUPS = 1, 2, 3, 4, 5
+# The records of a list that is searched.
+SEARCHED = 32
 
 
 def case(asked, data, sectors=(), lengths=(), room=0):

@@ -1,10 +1,10 @@
 #!/usr/bin/env python3
-"""Writes tests/cases/pairings, which the program `cases` is run on, and what it must print. pairings.py [FOLDER] writes it below
-another folder than tests.
+"""Writes tests/cases/pairings, which the program `cases` is run on, and what it must print. pairings.py [FOLDER] writes it
+below another folder than tests.
 
-Each case has a label and one to four layers. A layer is a list of grains: None (absent), ZERO, or the bytes of a stored one. Images are built from it in layouts of many
-kinds; what a collapse must give is computed from the lists and from document 01's 'The collapsed image' alone. Nothing here
-reads an image.
+Each case has a label and one to four layers. A layer is a list of grains: None (absent), ZERO, or the bytes of a stored one.
+Images are built from it in layouts of many kinds; what a collapse must give is computed from the lists and from document
+01's 'The collapsed image' alone. Nothing here reads an image.
 """
 import random
 import struct
@@ -140,6 +140,7 @@ for capacity in (57, 64):
 # the least capacity, and bytes past the last whole sector
 chain("capacity-1", 1, 8, [[A], [None], [B]])
 chain("past-last-sector", 16, 8, [[A, None], [ZERO, B], [None, ZERO], [None, None]], tail=b"past" * 100)
+chain("past-last-sector-alone", 16, 8, [[A, ZERO]], tail=b"past" * 100)
 # larger grains, where the gap is long
 chain("grain-size-16", 40, 16, [[bytes_of(7, 16), None, ZERO], [None, bytes_of(8, 16), None], [ZERO, None, bytes_of(9, 16)]])
 chain("grain-size-64", 65, 64, [[bytes_of(10, 64), None], [None, ZERO], [None, None], [None, None]])
@@ -159,14 +160,20 @@ for seed in range(16):
           whole=dice.random() < 0.5)
 
 # ---- refusals, and the output's edge. The lower's check, the upper's check, 23, 22, 21
-LOW, HIGH = small(8, 0), small(0, 8)
+LOW, HIGH = small(8, 0)[:8 * SECTOR] + A, small(0, 8)[:8 * SECTOR] + B
 RESULT = collapsed(16, 8, [LOW[8 * SECTOR:], HIGH[8 * SECTOR:]])
+NORMAL = collapsed(16, 8, [LOW[8 * SECTOR:], None])
+ABSENT = small(0, 0)
 WIDE = small(8, 0, head=kdmv(24))
 PACKED = image(16, (0, kdmv(flags=0x10001, compression=1)), (1, entries(2)))
 COWD = image(38, (0, cowd(16, 8)), (4, entries(5)), (5, entries(0, 37)))[:37 * SECTOR] + bytes(8 * SECTOR)
 written("room-exact", [LOW, HIGH], RESULT, len(RESULT))
 written("room-byte-more", [LOW, HIGH], RESULT, len(RESULT) + 1)
-written("one-stored-grain", [LOW], collapsed(16, 8, [LOW[8 * SECTOR:], None]), 8192)
+written("one-stored-grain", [LOW], NORMAL, 8192)
+written("normal-form-again", [NORMAL], NORMAL, 8192)
+written("itself", [LOW, LOW], NORMAL, 8192)
+written("absent-below", [ABSENT, LOW], NORMAL, 8192)
+written("absent-above", [LOW, ABSENT], NORMAL, 8192)
 refused("room-byte-short", 21, LOW, HIGH, room=len(RESULT) - 1)
 refused("room-8191", 21, LOW, room=8191)
 refused("room-0", 21, LOW, room=0)
@@ -177,10 +184,13 @@ refused("upper-grain-past", 9, LOW, small(8, 9), place=1)
 refused("upper-overlap", 12, LOW, small(8, 8))
 refused("overlap", 12, small(8, 8))
 refused("directory-0", 8, small(8, 0, head=kdmv(directory=0)))
+refused("upper-before-23", 1, COWD, b"")
 refused("lower-cowd", 23, COWD, WIDE)
 refused("upper-packed", 23, WIDE, PACKED, room=0)
 refused("cowd", 23, COWD)
 refused("packed", 23, PACKED)
+refused("check-before-23", 3, image(64, (0, cowd(version=2))), room=0)
+refused("23-before-21", 23, COWD, room=0)
 refused("capacities-differ", 22, LOW, WIDE, room=0)
 refused("grain-sizes-differ", 22, LOW, small(8, 0, head=kdmv(size=16), sectors=32))
 

@@ -75,6 +75,15 @@ lookups("directory-entry-0", image(16, (0, kdmv())), (0, absent()), (15, absent(
 lookups("cowd-table-entry-1", image(37, (0, cowd(4, 1)), (4, entries(5)), (5, entries(1, 0, 36, 37))),
         (0, stored(1)), (1, absent()), (2, stored(36)), (3, refused(9, 3)), (4, refused(20)))
 lookups("cowd-directory-entry-1", image(37, (0, cowd(4, 1)), (4, entries(1))), (0, absent()))
+# grain g uses directory entry g / 512 and table entry g mod 512, 4,096 in COWD; the primary directory's
+lookups("second-table", image(26, (0, kdmv(4104)), (1, entries(2, 6)), (2, entries(*[0] * 511, 10)), (6, entries(18))),
+        (4087, absent()), (4088, stored(10)), (4095, stored(17)), (4096, stored(18)), (4103, stored(25)), (4104, refused(20)))
+lookups("cowd-second-table",
+        image(71, (0, cowd(4097, 1, count=2)), (4, entries(5, 37)), (5, entries(*[0] * 4095, 69)), (37, entries(70))),
+        (4094, absent()), (4095, stored(69)), (4096, stored(70)), (4097, refused(20)))
+lookups("primary-directory",
+        image(32, (0, kdmv(redundant=6)), (1, entries(2)), (2, entries(16, 1)), (6, entries(7)), (7, entries(24, 0))),
+        (0, stored(16)), (8, zero()))
 # 1 and 2
 lookups("no-bytes", b"", (0, refused(1)))
 lookups("three-bytes", b"KDM", (0, refused(1)))
@@ -92,6 +101,7 @@ lookups("newline-not-tested", small(0, 0, head=kdmv(newline=b"\n \n\n", flags=0)
 # 5
 for flags in (0x8, 0x8001, 0x40001, 0x80000001):
     lookups(f"flags-{flags:x}", small(0, 0, head=kdmv(flags=flags)), (0, refused(5)))
+lookups("flags-30007", small(0, 0, head=kdmv(flags=0x30007, compression=1, redundant=9)), (0, absent()))
 lookups("compression-unflagged", small(0, 0, head=kdmv(compression=1)), (0, refused(5)))
 lookups("compression-2", small(0, 0, head=kdmv(compression=2)), (0, refused(5)))
 lookups("compressed-compression-0", small(0, 0, head=kdmv(flags=0x10001)), (0, refused(5)))
@@ -121,6 +131,14 @@ lookups("table-past-cut", image(5, (0, kdmv()), (1, entries(2)), extra=511), (0,
 lookups("table-far", image(16, (0, kdmv()), (1, entries(2**32 - 1))), (0, refused(8)))
 lookups("cowd-directory-by-count", image(16, (0, cowd(count=1024))), (0, absent()))
 lookups("cowd-directory-past", image(16, (0, cowd(count=1537))), (0, refused(8)))
+lookups("other-table-past", image(6, (0, kdmv(4104)), (1, entries(2, 3))), (0, absent()), (4096, refused(8)))
+# what the lookup does not judge: the descriptor, the redundant directory (above), grains that share a sector, bytes past F
+lookups("descriptor-past", small(8, 0, head=kdmv(descriptor=(6, 11))), (0, stored(8)))
+lookups("two-grains-on-one", small(8, 8), (0, stored(8)), (8, stored(8)))
+lookups("past-last-sector", small(8, 0) + b"\xff" * 511, (0, stored(8)), (7, stored(15)), (8, absent()))
+# the order: 1 to 7, 20, 8, 9, 10
+lookups("header-before-20", small(0, 0, head=kdmv(version=0)), (16, refused(3)))
+lookups("20-before-8", small(0, 0, head=kdmv(directory=0)), (15, refused(8)), (16, refused(20)))
 # 9: a grain one sector past F, also where capacity ends inside it
 lookups("grain-at-end", small(8, 0), (0, stored(8)), (7, stored(15)))
 lookups("other-grain-past", small(9, 8), (0, refused(9, 0)), (8, stored(8)))
@@ -140,6 +158,9 @@ lookups("packed-second", image(7, (0, PACKED), (1, entries(2)), (2, entries(0, 6
 lookups("packed-other-grain", image(7, (0, PACKED), (1, entries(2)), (2, entries(0, 6)), (6, marker(0, 5))),
         (8, refused(10, 1)))
 lookups("packed-marker-past", image(7, (0, PACKED), (1, entries(2)), (2, entries(7, 0))), (0, refused(9, 0)))
+lookups("packed-marker-cut", image(7, (0, PACKED), (1, entries(2)), (2, entries(7, 0))) + marker(0, 5).ljust(511, b"\0"),
+        (0, refused(9, 0)))
+lookups("9-before-10", image(7, (0, PACKED), (1, entries(2)), (2, entries(6, 0)), (6, marker(1, 501))), (0, refused(9, 0)))
 # 7: the footer
 lookups("stream", stream(), (0, packed(6, 5, 0)), (8, zero()), (16, refused(20)))
 lookups("stream-odd-length", stream(extra=1), (0, refused(7)))
@@ -166,6 +187,8 @@ chain("top-over-absent", [TOP, BASE], (0, stored(8, 1)))
 chain("middle-of-no-bytes", [BASE, b"", TOP], (0, refused(1, layer=1)))
 chain("top-header-first", [b"", BASE, b"abcd"], (0, refused(2, layer=2)))
 chain("middle-header-first", [b"abcd", b"", BASE], (0, refused(1, layer=1)))
+chain("header-before-22", [b"abcd", small(8, 0, head=kdmv(24)), BASE], (0, refused(2)))
+chain("header-before-20-in-chain", [b"abcd", BASE], (16, refused(2)))
 chain("capacities-differ", [BASE, small(8, 0, head=kdmv(24))], (0, refused(22)), (24, refused(22)))
 chain("grain-sizes-differ", [BASE, small(8, 0, head=kdmv(size=16))], (16, refused(22)))
 chain("top-grain-past", [BASE, small(9, 9)], (0, refused(9, 0, layer=1)), (8, refused(9, 1, layer=1)))
@@ -174,6 +197,11 @@ chain("base-grain-not-asked", [small(9, 9), BASE], (0, stored(8, 1)))
 chain("top-directory-0", [BASE, small(8, 8, head=kdmv(directory=0))], (0, refused(8, layer=1)))
 chain("cowd-under-kdmv", [image(38, (0, cowd(16, 8)), (4, entries(5)), (5, entries(0, 30))), TOP],
       (8, stored(30, 0)), (0, absent(0)))
+chain("packed-over-stored",
+      [BASE, image(7, (0, PACKED), (1, entries(2)), (2, entries(6, 0)), (6, marker(0, 500)))],
+      (3, packed(6, 500, 3, 1)), (8, stored(8, 0)))
+chain("layers-of-odd-length", [BASE + b"\xff" * 511, MIDDLE + b"\xff"], (0, zero(1)), (8, stored(8, 1)))
+chain("24-before-headers", [b"abcd"], (0, refused(24)), lengths=[3])
 chain("lengths-byte-short", [BASE], (0, refused(24)), lengths=[len(BASE) - 1])
 chain("lengths-byte-long", [BASE], (0, refused(24)), lengths=[len(BASE), 1])
 chain("lengths-wrap", [BASE], (0, refused(24)), lengths=[2**64 - 1, len(BASE) + 1])

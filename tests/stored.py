@@ -1,7 +1,7 @@
 #!/usr/bin/env python3
-"""Writes what tests/*.py store below tests anew, in a temporary folder, and prints each file that differs from the stored one, is
-missing or is too many: tests/stored.py. Whatever has a function write(folder) is such a script; a folder that none writes has
-its own script `make`, which needs other programs."""
+"""Writes what tests/*.py store below tests anew, in a temporary folder, and prints each file that differs from the stored
+one, is missing or is too many: tests/stored.py. Whatever has a function write(folder) is such a script; a folder that none
+writes has its own script `make`, which needs other programs."""
 import contextlib
 import importlib
 import io

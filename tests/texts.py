@@ -8,6 +8,7 @@ told by one line of it, that line is the label.
 """
 import pathlib
 import random
+import struct
 
 import asked
 from grammar import Refused, described, found, judge
@@ -81,8 +82,8 @@ case("text-after-first-zero-byte", "\0x", 31)
 case("31-before-a-line", FIRST + "word\n\0\0 ", 31)
 # 30: the first line that isn't empty
 for name, text in (("no-bytes", ""), ("only-a-zero-byte", "\0"), ("only-an-end", "\n"), ("only-blanks", " \t\r\n\r\n"),
-                   ("keys-first", KEYS + ZERO), ("# note first", "# note\n" + WHOLE), ("\\xef\\xbb\\xbf first", "\xef\xbb\xbf" + WHOLE),
-                   ("\\x0b first", "\x0b" + WHOLE), ("word first", "word\nword\n")):
+                   ("keys-first", KEYS + ZERO), ("comment-first", "# note\n" + WHOLE), ("mark-first", "\xef\xbb\xbf" + WHOLE),
+                   ("0b-first", "\x0b" + WHOLE), ("30-before-a-line", "word\nword\n")):
     case(name, text, 30)
 for first in ("#Disk DescriptorFile", "# Disk DescriptorFil", "# Disk DescriptorFile2", "# Disk  DescriptorFile",
               "# Disk DescriptorFile x", "# Disk DescriptorFile\x0c", "# Disk Descriptor\rFile"):
@@ -214,6 +215,24 @@ for number in range(150):
     asked.label(LABELS, f"random-{number}")
     CASES.append((text, (0, 3, 4, 12, 21)))
 
+# ---- the search in a list of any records, with each answer written down by hand: a record's number, or nothing for 20
+LISTS = []
+
+
+def listed(name, records, *answers):
+    """Records given by first sector and sectors; those past the last have no sectors."""
+    asked.label(LABELS, name)
+    numbers = [number for first, sectors in records for number in (first, sectors, 1, 5, 0, 0, 0)]
+    data = struct.pack(f"<{7 * asked.SEARCHED}Q", *numbers, *[0] * (7 * asked.SEARCHED - len(numbers)))
+    found = [asked.line("find", *((20, 0, 0) if record is None else (0, 0, record))) for _, record in answers]
+    LISTS.append((asked.case(asked.FIND, data, [sector for sector, _ in answers]), found))
+
+
+listed("first-of-two-records", [(5, 0), (5, 2), (6, 9)], (4, None), (5, 1), (6, 1), (7, 2), (14, 2), (15, None))
+listed("end-past-2^64", [(0, 4), (2**64 - 1, 2)], (3, 0), (4, None), (2**64 - 2, None), (2**64 - 1, 1))
+listed("no-sectors", [], (0, None), (2**64 - 1, None))
+listed("last-of-32-records", [(0, 0)] * 31 + [(8, 1)], (7, None), (8, 31), (9, None))
+
 
 def lines():
     for data, sectors in CASES:
@@ -224,8 +243,8 @@ def lines():
 
 
 def write(folder):
-    cases = [asked.case(asked.TEXT, data, sectors) for data, sectors in CASES]
-    asked.write_cases(folder, "texts", cases, list(lines()))
+    cases = [asked.case(asked.TEXT, data, sectors) for data, sectors in CASES] + [data for data, _ in LISTS]
+    asked.write_cases(folder, "texts", cases, [*lines(), *(line for _, found in LISTS for line in found)])
 
 
 if __name__ == "__main__":
