@@ -103,6 +103,7 @@ refused("packed-past", image(7, (0, PACKED), (1, entries(2)), (2, entries(6, 0))
 refused("packed-marker-past", image(7, (0, PACKED), (1, entries(2)), (2, entries(0, 7))), 9, 1)
 refused("packed-empty", image(7, (0, PACKED), (1, entries(2)), (2, entries(6, 0)), (6, marker(0, 0))), 10)
 refused("packed-other-grain", image(7, (0, PACKED), (1, entries(2)), (2, entries(0, 6)), (6, marker(0, 5))), 10, 1)
+refused("markers-lowest", image(8, (0, PACKED), (1, entries(2)), (2, entries(6, 7)), (6, marker(1, 5)), (7, marker(8, 0))), 10)
 refused("past-before-marker", image(7, (0, PACKED), (1, entries(2)), (2, entries(6, 7)), (6, marker(9, 5))), 9, 1)
 refused("marker-before-copies",
         image(13, (0, kdmv(flags=0x10001, compression=1, redundant=6)), (1, entries(2)), (2, entries(11, 0)), (6, entries(7)),

@@ -62,11 +62,12 @@ for number, line in enumerate((root / "docs/PROMISES.md").read_text().splitlines
         said = list(missing(line))
     elif head:
         head = False
-    elif not re.match(r"\|---", line):
+    elif not line.startswith("|---"):
         cells = [cell.strip() for cell in line.split("|")[1:-1]]
         said = [lack for cell in cells[1:] for lack in missing(cell)]
         if len(cells) != 4 or not all(cells):
             said.append(f"{len(cells)} cells, or an empty one")
+        said += [f"nothing is named: {cell}" for cell in cells[1:3] if not re.search("`|below|^tested only", cell)]
         last = re.findall(r"`([\w.-]+(?:/[\w.-]+)+)`", cells[-1])
         said += [f"{file} is no test" for file in last if not TESTS.fullmatch(file)]
         if not last:
