@@ -54,6 +54,18 @@ def missing(text):
             yield f"{cited} is of no file"
 
 
+def untested(cell):
+    """What keeps a last cell from naming a test: an input or an edit is one by itself, any other file with a name of it."""
+    files = re.findall(r"`([\w.-]+(?:/[\w.-]+)+)`(?=\s*(`?))", cell)
+    for file, name in files:
+        if not TESTS.fullmatch(file):
+            yield f"{file} is no test"
+        elif not name and not re.match(r"tests/checks/|\w+/must-fail/", file):
+            yield f"no test of {file} is named"
+    if not files:
+        yield "no test is named"
+
+
 head = False
 for number, line in enumerate((root / "docs/PROMISES.md").read_text().splitlines(), 1):
     said = []
@@ -68,9 +80,6 @@ for number, line in enumerate((root / "docs/PROMISES.md").read_text().splitlines
         if len(cells) != 4 or not all(cells):
             said.append(f"{len(cells)} cells, or an empty one")
         said += [f"nothing is named: {cell}" for cell in cells[1:3] if not re.search("`|below|^tested only", cell)]
-        last = re.findall(r"`([\w.-]+(?:/[\w.-]+)+)`", cells[-1])
-        said += [f"{file} is no test" for file in last if not TESTS.fullmatch(file)]
-        if not last:
-            said.append("no test is named")
+        said += untested(cells[-1])
     for lack in said:
         print(f"docs/PROMISES.md:{number}: {lack}")
