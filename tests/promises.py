@@ -7,12 +7,10 @@ tests: tests/checks/NAME, a stored input; tests/NAME.py with labels of its cases
 script of .ci/ with its steps; the stdout of a program crate with what a line of it begins with."""
 import importlib
 import re
-import sys
 from functools import lru_cache
 
 from sources import defined, root, rust_tests
 
-sys.dont_write_bytecode = True
 # What the last cell of a row may name: a test, an example that is proved, or a wrong program that is refused.
 TESTS = re.compile(r"tests/(checks/[\w-]+|\w+\.py)|rust/[\w/-]+\.rs|\.ci/\w+|\w+/stdout|"
                    r"\w+/proofs/Examples\w*\.antt|\w+/must-fail/\w+\.edit")
@@ -28,7 +26,7 @@ def names(file):
     """What can be cited of a file."""
     path = place(file)
     if re.fullmatch(r"tests/\w+\.py", file):
-        return set(getattr(importlib.import_module(path.stem), "LABELS", ()))
+        return set(importlib.import_module(path.stem).LABELS) if "LABELS" in path.read_text() else set()
     if path.suffix == ".rs":
         return rust_tests(path)
     if file.startswith(".ci/"):

@@ -6,10 +6,7 @@ import contextlib
 import importlib
 import io
 import pathlib
-import sys
 import tempfile
-
-sys.dont_write_bytecode = True
 
 HERE = pathlib.Path(__file__).resolve().parent
 scripts = [path.stem for path in sorted(HERE.glob("*.py")) if "\ndef write(folder):" in path.read_text()]
