@@ -8,9 +8,11 @@ written by hand and kept. EDITS.md has each must-fail edit with the place of the
 stands there."""
 import re
 import sys
+import textwrap
 from pathlib import Path
 
 from calls import CALLS, edits as edits_by_call
+from shapes import keeps_shape, refused_at
 from sources import root
 
 MARK = "<!-- From here on by hand: tests/house.py keeps it. -->\n"
@@ -29,15 +31,6 @@ def does(name):
 def changes(name):
     """What an edit changes: src, specs or both."""
     return " ".join(sorted(set(re.findall(r"(?m)^file: (\w+)/", edits[name].read_text()))))
-
-
-def refused_at(name, folder):
-    """Whether the prover met a fact that no longer holds, or only a proof that does not fit the code's new shape: then it looks
-    for a need that the code no longer has. '?' where there is no log."""
-    log = folder / "target/must-fail" / name / ".log"
-    if not log.exists():
-        return "?"
-    return "shape" if "has no `Need-" in log.read_text(errors="replace") else "a fact"
 
 
 def lines(crate, folder, below=None):
@@ -98,19 +91,26 @@ The whole gate: {minutes[1] if minutes else '?'} minutes on two cores ({model[1]
 
 def write_edits(refused, folder):
     at = {name: refused_at(name, folder) for name in refused}
-    rows = [f"| {name} | {does(name)} | {changes(name)} | {at[name]} | {place} | {stands_at(name.split('/')[0], place)} |"
-            for name, (place, _) in refused.items()]
-    by_shape = [name for name in refused if at[name] == "shape"]
     of_code = [name for name in refused if changes(name) == "src"]
+    shape = {name: {True: "kept", False: "changed", None: "?"}[keeps_shape(name, folder)] for name in of_code}
+    rows = [f"| {name} | {does(name)} | {shape.get(name, 'a definition')} | {at[name]} | {place} | "
+            f"{stands_at(name.split('/')[0], place)} |" for name, (place, _) in refused.items()]
+    changed = [name for name in of_code if shape[name] != "kept"]
+    by_shape = [name for name in of_code if at[name] == "shape"]
+    paragraphs = [
+        f"""Written by tests/house.py from a gate's run. An edit of `crates/CRATE/must-fail` makes a wrong program, and the gate
+        fails unless the prover refuses it. There are {len(refused)}; {len(refused) - len(of_code)} of them change a definition,
+        the others code.""",
+        f"""Where an edit of code keeps its shape, which is the same operations in the same order with other operands, the proof
+        still fits it, and the prover can refuse it only at a fact that no longer holds. The compiler's output tells which do:
+        {len(shape) - len(changed)} of {len(shape)}. The others have an operation, a test or a call more, less or in another
+        order: {', '.join(changed) or 'none'}. Of these the prover's log tells, by the name of what is asked where it first
+        fails, which met no fact but only a proof that no longer fits, and so show nothing: {', '.join(by_shape) or 'none'}.
+        The gate fails where there is one."""]
+    said = "\n\n".join(textwrap.fill(" ".join(text.split()), 125, break_on_hyphens=False) for text in paragraphs)
     EDITS.write_text(f"""# What the prover has to refuse
 
-Written by tests/house.py from the log of a gate's run. An edit of `crates/CRATE/must-fail` makes a wrong program, and the gate
-fails unless the prover refuses it. There are {len(refused)}: {len(of_code)} change code, the others definitions.
-
-An edit shows something where it is refused at a fact that no longer holds, and nothing where it breaks the code's shape, so
-that the proof only does not fit it any more. The prover's log tells: then it looks for a need that the code does not have. By
-the logs of that run these fall by shape: {', '.join(by_shape) or 'none'}. The gate fails where an edit of code does. A walk
-written by hand names no needs, so its log cannot tell.
+{said}
 
 ## Wrong programs by public call
 
@@ -126,7 +126,7 @@ wrong there is wrong here. Each edit names its calls itself, in a line `# call:`
 The first error of each log: where it stands in the edited crate, and what was to be shown there: the contract, what a callee
 asks for (`..-requires`), a loop's invariant (`loop-again`), or what the line of the proof says.
 
-| edit | what it does | changes | refused at | first error | what was to be shown |
+| edit | what it does | shape | refused at | first error | what was to be shown |
 |---|---|---|---|---|---|
 """ + "\n".join(rows) + "\n")
 
@@ -151,8 +151,8 @@ def problems():
     yield from unlike("EDITS.md", of_edits, "edit", list(edits))
     yield from unlike("HOUSE.md", of_crates, "crate", crates)
     yield from (f"docs/EDITS.md lacks the row {row}" for row in calls_table() if row not in page.splitlines())
-    for name, said, changed, at, *_ in of_edits:
-        if name in edits and ((said, changed) != (does(name), changes(name)) or at not in ("a fact", "shape")):
+    for name, said, shape, at, *_ in of_edits:
+        if name in edits and (said != does(name) or "?" in (shape, at)):
             yield f"docs/EDITS.md tells {name} otherwise than the edit does, or not what it is refused at"
     for crate, *_, count, _ in of_crates:
         own = sum(name.startswith(crate.strip("`") + "/") for name in edits)
@@ -160,7 +160,7 @@ def problems():
             yield f"docs/HOUSE.md tells of {count} edits of {crate}, which has {own}"
     for name in edits:
         if changes(name) != "specs" and refused_at(name, root) == "shape":
-            yield f"{name} only breaks the code's shape, by target/must-fail/{name}/.log"
+            yield f"{name} only breaks the code's shape: target/must-fail/{name}/.log"
 
 
 if sys.argv[1:]:
