@@ -71,6 +71,7 @@ case("example-of-001",
      sectors=(4194304, 8388607, 8388608, 10485759, 10485760))
 # 36: 65,536 bytes, zero bytes counted; it comes before 31
 case("65536-bytes", WHOLE.encode().ljust(65536, b"\0"))
+case("65537-bytes-of-zeros", WHOLE.encode().ljust(65537, b"\0"), 36)
 case("65537-bytes", WHOLE.encode().ljust(65536, b"\0") + b"x", 36)
 # 31: before 30 and every line
 case("zero-byte", WHOLE + "\0")
