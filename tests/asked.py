@@ -1,8 +1,11 @@
 """Inputs of the program `cases`, and what it must print: tests/cases/NAME and NAME.lines. crates/cases tells their form."""
 import pathlib
 import struct
+import sys
 
-CHAIN, COLLAPSE, TEXT, LOOKUPS = 1, 2, 3, 5
+CHAIN, COLLAPSE, TEXT, FIND, LOOKUPS = 1, 2, 3, 4, 5
+# The records of a list that is searched.
+SEARCHED = 32
 
 
 def case(asked, data, sectors=(), lengths=(), room=0):
@@ -22,8 +25,20 @@ def digest(data):
     return h
 
 
-def write(name, cases, lines):
-    folder = pathlib.Path(__file__).resolve().parent / "cases"
+def write_cases(folder, name, cases, lines):
+    folder = folder / "cases"
+    folder.mkdir(exist_ok=True)
     (folder / name).write_bytes(b"".join(cases))
     (folder / f"{name}.lines").write_text("".join(lines))
     print(f"{len(cases)} cases, {len(lines)} lines, {sum(map(len, cases))} bytes")
+
+
+def label(labels, name):
+    """A case's label, by which docs/PROMISES.md cites it: no two have the same."""
+    assert name not in labels, name
+    labels.append(name)
+
+
+def main(write):
+    """Writes the stored inputs anew, or those of another folder: NAME.py [FOLDER]."""
+    write(pathlib.Path(sys.argv[1]) if sys.argv[1:] else pathlib.Path(__file__).resolve().parent)

@@ -1,12 +1,11 @@
 #!/usr/bin/env python3
 """Writes the inputs that the program `vmdk_check` is run on, and the line that it must print for each: tests/checks/NAME and
-NAME.line.
+NAME.line. checks.py [FOLDER] writes them below another folder than tests.
 
 Each verdict is document 01's, written down by hand: a case at least for each refusal number that the program can give, both
 sides of each edge.
 """
-import pathlib
-
+from asked import main
 from images import ALL_ONES, FOOTER, PACKED, SECTOR, STREAM, cowd, entries, image, kdmv, marker, small, stream
 
 CASES = {}
@@ -33,26 +32,40 @@ refused("cowd-2047", cowd()[:2047], 1)
 refused("other-magic", b"VMDK" + bytes(4092), 2)
 refused("version-0", small(0, 0, head=kdmv(version=0)), 3)
 accepted("version-3", small(0, 0, head=kdmv(version=3)))
+refused("version-before-newline", small(0, 0, head=kdmv(version=0, newline=b"\r \n\n")), 3)
 refused("version-4", small(0, 0, head=kdmv(version=4)), 3)
 refused("cowd-version-2", image(37, (0, cowd(version=2)), (4, entries(5))), 3)
 refused("newline", small(0, 0, head=kdmv(newline=b"\r \n\n")), 4)
 accepted("newline-not-tested", small(0, 0, head=kdmv(newline=b"\r \n\n", flags=0)))
+refused("newline-before-flags", small(0, 0, head=kdmv(newline=b"\r \n\n", flags=9)), 4)
 refused("flag-8", small(0, 0, head=kdmv(flags=9)), 5)
 refused("compression-unflagged", small(0, 0, head=kdmv(compression=1)), 5)
 refused("markers-alone", small(0, 0, head=kdmv(flags=0x20001)), 5)
 refused("redundant-missing", small(0, 0, head=kdmv(flags=3)), 5)
 refused("end-without-markers", small(0, 0, head=kdmv(directory=ALL_ONES)), 5)
+refused("flags-before-sizes", small(0, 0, head=kdmv(0, flags=9)), 5)
 refused("capacity-0", small(0, 0, head=kdmv(0)), 6)
+accepted("capacity-1", small(8, head=kdmv(1)), 1)
+accepted("capacity-most", image(17, (0, kdmv(2**31, 2048))), 2**31, 2048)
 refused("capacity-high", small(0, 0, head=kdmv(2**31 + 1)), 6)
 for size in (4, 12, 4096):
     refused(f"grain-size-{size}", small(0, 0, head=kdmv(size=size)), 6)
 refused("entries-511", small(0, 0, head=kdmv(entries=511)), 6)
 refused("cowd-count-low", image(64, (0, cowd(4097, 1, count=1))), 6)
+refused("cowd-capacity-0", image(64, (0, cowd(0))), 6)
+accepted("cowd-capacity-most", image(6, (0, cowd(2**31, 2048, count=256))), 2**31, 2048)
+refused("cowd-capacity-high", image(7, (0, cowd(2**31 + 1, 2048, count=257))), 6)
+for size in (0, 3, 4096):
+    refused(f"cowd-grain-size-{size}", image(64, (0, cowd(size=size))), 6)
+accepted("not-judged", small(8, 0, head=kdmv(overhead=2**64 - 1, dirty=1, padding=255)))
+accepted("cowd-not-judged", image(64, (0, cowd(flags=2**32 - 1)), (4, entries(5))))
 accepted("stream", stream())
+refused("sizes-before-footer", stream(head=kdmv(0, flags=0x30001, compression=1, directory=ALL_ONES)), 6)
 refused("stream-cut", stream()[:-1], 7)
 refused("stream-last-byte", stream(last=bytes(511) + b"\1"), 7)
 refused("stream-footer-byte", stream(footer=FOOTER[:511] + b"\1"), 7)
 refused("stream-again", stream(footer=STREAM), 7)
+refused("footer-before-places", stream(footer=FOOTER[:56] + bytes(8) + FOOTER[64:], last=b"\1"), 7)
 
 # ---- 8
 refused("descriptor-no-sector", small(0, 0, head=kdmv(descriptor=(0, 1))), 8)
@@ -63,11 +76,21 @@ refused("descriptor-wraps", small(0, 0, head=kdmv(descriptor=(2**64 - 1, 2))), 8
 refused("directory-0", small(0, 0, head=kdmv(directory=0)), 8)
 refused("directory-past", small(0, 0, head=kdmv(directory=16)), 8)
 refused("directory-wraps", small(0, 0, head=kdmv(directory=2**64 - 2)), 8)
+# n is 128, 129 and 127: 128 entries fill a sector
+accepted("directory-one-sector", image(2, (0, kdmv(128 * 512 * 8))), 128 * 512 * 8)
+refused("directory-two-sectors", image(2, (0, kdmv(128 * 512 * 8 + 1))), 8)
+refused("directory-entry-127", image(2, (0, kdmv(8323072, 128)), (1, entries(*[0] * 126, 99))), 8)
+accepted("directory-entry-128", image(2, (0, kdmv(8323072, 128)), (1, entries(*[0] * 127, 99))), 8323072, 128)
 refused("redundant-past", small(0, 0, head=kdmv(redundant=16)), 8)
 accepted("table-at-end", image(6, (0, kdmv()), (1, entries(2))))
 refused("table-past", image(6, (0, kdmv()), (1, entries(3))), 8)
 refused("redundant-table-past", image(16, (0, kdmv(redundant=6)), (1, entries(2)), (6, entries(13))), 8)
+accepted("cowd-table-at-end", image(37, (0, cowd(4, 1)), (4, entries(5))), 4, 1)
+refused("cowd-table-past", image(36, (0, cowd(4, 1)), (4, entries(5))), 8)
+accepted("cowd-unused-directory-entry", image(37, (0, cowd(4, 1, count=2)), (4, entries(5, 2**32 - 1))), 4, 1)
 accepted("directory-entry-1", image(16, (0, kdmv()), (1, entries(1))))
+
+refused("places-before-grains", small(9, 0, head=kdmv(descriptor=(6, 11))), 8)
 
 # ---- 9 and 10
 accepted("grain-at-end", small(8, 0))
@@ -80,7 +103,11 @@ refused("packed-past", image(7, (0, PACKED), (1, entries(2)), (2, entries(6, 0))
 refused("packed-marker-past", image(7, (0, PACKED), (1, entries(2)), (2, entries(0, 7))), 9, 1)
 refused("packed-empty", image(7, (0, PACKED), (1, entries(2)), (2, entries(6, 0)), (6, marker(0, 0))), 10)
 refused("packed-other-grain", image(7, (0, PACKED), (1, entries(2)), (2, entries(0, 6)), (6, marker(0, 5))), 10, 1)
+refused("markers-lowest", image(8, (0, PACKED), (1, entries(2)), (2, entries(6, 7)), (6, marker(1, 5)), (7, marker(8, 0))), 10)
 refused("past-before-marker", image(7, (0, PACKED), (1, entries(2)), (2, entries(6, 7)), (6, marker(9, 5))), 9, 1)
+refused("marker-before-copies",
+        image(13, (0, kdmv(flags=0x10001, compression=1, redundant=6)), (1, entries(2)), (2, entries(11, 0)), (6, entries(7)),
+              (7, entries(12, 0)), (11, marker(0, 0))), 10)
 
 
 # ---- 11
@@ -95,6 +122,7 @@ accepted("copies-differ-unused", copied(entries(16, 1, 5), entries(16, 1, 6)))
 refused("copies-zero-and-absent", copied(b"", b"", entries(1), entries(0)), 11)
 refused("copies-table-and-zero", copied(entries(0, 0), b"", entries(2), entries(1)), 11)
 accepted("copies-both-zero", copied(b"", b"", entries(1), entries(1)))
+refused("copies-before-overlap", copied(entries(16, 16), entries(16, 17)), 11)
 
 # ---- 12
 refused("two-grains-on-one", small(8, 8), 12)
@@ -104,6 +132,7 @@ refused("grain-on-table", small(4, 0), 12)
 refused("grain-on-header", image(64, (0, cowd(4, 1)), (4, entries(5)), (5, entries(1))), 12)
 refused("table-twice", image(16, (0, kdmv(8192 * 8, 8)), (1, entries(2, 2))), 12)
 refused("redundant-is-primary", small(0, 0, head=kdmv(redundant=1)), 12)
+refused("redundant-table-is-primary", copied(entries(16, 1), b"", redundant=entries(2)), 12)
 refused("descriptor-on-directory", small(0, 0, head=kdmv(descriptor=(1, 1))), 12)
 refused("descriptor-on-grain", small(8, 0, head=kdmv(descriptor=(15, 1))), 12)
 
@@ -122,13 +151,14 @@ refused("cowd-grain-in-table", image(64, (0, cowd(16, 8)), (4, entries(5)), (5, 
 
 # ---- lengths
 accepted("last-sector-cut", small(8, 0) + bytes(511))
+accepted("past-last-sector", small(8, 0) + b"\xff" * 511)
 accepted("empty-disk", image(6, (0, kdmv(200, 128)), (1, entries(2))), 200, 128)
 accepted("full-buffer", small(8, 0, sectors=128))
 refused("over-full", small(8, 0, sectors=128) + b"\0", 37)
 
 
-def main():
-    folder = pathlib.Path(__file__).resolve().parent / "checks"
+def write(folder):
+    folder = folder / "checks"
     folder.mkdir(exist_ok=True)
     for old in folder.iterdir():
         old.unlink()
@@ -138,4 +168,5 @@ def main():
     print(f"{len(CASES)} inputs, {sum(len(d) for d, _ in CASES.values())} bytes")
 
 
-main()
+if __name__ == "__main__":
+    main(write)

@@ -1,71 +1,83 @@
 #!/usr/bin/env python3
-"""Writes docs/HOUSE.md and docs/EDITS.md from the sources and from the log of a gate's run: tests/house.py LOG.
+"""Writes docs/HOUSE.md and docs/EDITS.md from the sources and from a gate's run: tests/house.py LOG [FOLDER]. LOG is what the
+run printed, FOLDER the repository that it ran in, whose target/ has the prover's logs. Without words it prints where the two
+pages and the repository differ, and each edit of code that only breaks the code's shape.
 
-HOUSE.md has the lines of each crate and the seconds that the gate took for it, EDITS.md each must-fail edit with the place
-of the first error that the prover gave, and what stands there. Without a log, it prints each public call that has fewer than
-two of the edits below, and each of these that is not there."""
+HOUSE.md has the lines of each crate and the seconds that the gate took for it; what stands in it from the line MARK on is
+written by hand and kept. EDITS.md has each must-fail edit with the place of the first error that the prover gave, and what
+stands there."""
 import re
 import sys
+import textwrap
 from pathlib import Path
 
-root = Path(__file__).resolve().parent.parent
-# Wrong programs for each public call, by the crate whose function the edit changes.
-calls = {
-    'check': 'accept/accepts_all accept/refuses_all accept/copies_stop_at_zero overlap/one_window',
-    'header': 'header/cowd_as_kdmv header/newline_as_flags answers/head_capacity',
-    'lookup': 'exports/lookup_first lookup/always_absent lookup/parent_for_zero',
-    'read': 'exports/read_first lookup/part_for_zero lookup/part_on_refusal',
-    'chain': 'exports/chain_first chain/base_first chain/sector_first',
-    'normal': 'collapse/writes_nothing collapse/room_not_judged collapse/first_grain_only answers/written_nothing',
-    'collapse': 'exports/collapse_lower collapse/lower_first collapse/zero_as_absent',
-    'descriptor': 'exports/list_as_lent records/first_left_out records/record_past_last text/line_before',
-    'find': 'exports/find_of_first records/one_sector_more records/other_number',
-}
-if len(sys.argv) < 2:
-    for call, names in calls.items():
-        if f'fn anhkhovet_{call}(' not in ''.join(path.read_text() for path in root.glob('crates/exports/src/*.rt')):
-            print(f'no public call {call}')
-        for name in names.split():
-            crate, edit = name.split('/')
-            if not (root / 'crates' / crate / 'must-fail' / f'{edit}.edit').exists():
-                print(f'{call}: no edit {name}')
-        if len(names.split()) < 2:
-            print(f'{call}: fewer than two edits')
-    sys.exit()
-log = Path(sys.argv[1]).read_text()
+from calls import CALLS, edits as edits_by_call
+from shapes import keeps_shape, refused_at
+from sources import root
+
+MARK = "<!-- From here on by hand: tests/house.py keeps it. -->\n"
+HOUSE, EDITS = root / "docs/HOUSE.md", root / "docs/EDITS.md"
+crates = re.findall(r"(?m)^(\w+):", (root / "crates.txt").read_text())
+# CRATE/LABEL and the file of each edit, crate by crate.
+edits = {f"{crate}/{path.stem}": path for crate in crates
+         for path in sorted((root / "crates" / crate / "must-fail").glob("*.edit"))}
 
 
-def lines(crate, folder, depth=None):
-    """Lines below a folder of a crate: all, or only those of its own files (depth 0), or only those further down (1)."""
-    count = 0
-    for path in (root / 'crates' / crate / folder).rglob('*'):
-        if path.suffix in ('.rt', '.antt'):
-            deep = len(path.relative_to(root / 'crates' / crate / folder).parts) > 1
-            if depth is None or deep == (depth == 1):
-                count += len(path.read_text().splitlines())
-    return count
+def does(name):
+    """What an edit does: its first line."""
+    return edits[name].read_text().splitlines()[0].lstrip("# ").replace("|", "\\|")
 
 
-crates = [re.match(r'(\w+):', line)[1] for line in (root / 'crates.txt').read_text().splitlines() if re.match(r'\w+:', line)]
-proved = {name: int(seconds) for name, seconds in re.findall(r'^rt: (\w+) proved \((\d+) s\)', log, re.M)}
-functions = {}
-for crate in crates:
-    source = ''.join(path.read_text() for path in (root / 'crates' / crate / 'src').rglob('*.rt'))
-    functions[crate] = len(re.findall(r'^\s*(?:pub )?(?:extern "C" )?fn ', source, re.M))
-refused = re.findall(r'^rt: must-fail (\w+)/(\w+): refused, as it must be \(first at ([^;]*); (\d+) s\)', log, re.M)
-edits = {crate: [row for row in refused if row[0] == crate] for crate in crates}
+def changes(name):
+    """What an edit changes: src, specs or both."""
+    return " ".join(sorted(set(re.findall(r"(?m)^file: (\w+)/", edits[name].read_text()))))
 
-table = []
-totals = [0] * 8
-for crate in crates:
-    row = [lines(crate, 'src'), functions[crate], lines(crate, 'specs'), lines(crate, 'proofs', 0), lines(crate, 'proofs', 1),
-           proved.get(crate, 0), len(edits[crate]), sum(int(e[3]) for e in edits[crate])]
-    totals = [a + b for a, b in zip(totals, row)]
-    table.append(f'| `{crate}` | ' + ' | '.join(f'{n:,}' for n in row) + ' |')
-table.append('| **all** | ' + ' | '.join(f'{n:,}' for n in totals) + ' |')
-model = re.search(r'model name\s*: (.*)', Path('/proc/cpuinfo').read_text())
-minutes = re.search(r'^gate: (\d+) minutes$', log, re.M)
-(root / 'docs/HOUSE.md').write_text(f'''# The house in numbers
+
+def lines(crate, folder, below=None):
+    """Lines in a folder of a crate: all, or only those of its own files (below False), or only those further down (True)."""
+    start = root / "crates" / crate / folder
+    paths = [path for path in start.rglob("*") if path.suffix in (".rt", ".antt")]
+    return sum(len(path.read_text().splitlines()) for path in paths if below is None or (path.parent != start) == below)
+
+
+def functions(crate):
+    source = "".join(path.read_text() for path in (root / "crates" / crate / "src").rglob("*.rt"))
+    return len(re.findall(r'(?m)^\s*(?:pub )?(?:extern "C" )?fn ', source))
+
+
+def calls_table():
+    """The wrong programs of each public call, as EDITS.md has them."""
+    wrong = edits_by_call()
+    return [f"| `anhkhovet_{call}` | {', '.join(wrong[call])} |" for call in CALLS]
+
+
+def stands_at(crate, place):
+    """What the prover was asked to show at a place of a proof: the name that the proof has for it, or the line itself."""
+    file, line = (place or ":1").split(":")[:2]
+    path = root / "crates" / crate / file
+    text = path.read_text().splitlines()[int(line) - 1].strip() if path.is_file() else ""
+    asked = re.search(r"λ ([a-z][\w-]*)", text)
+    if asked:
+        return "the contract" if len(asked[1]) == 1 or asked[1].startswith("returns") else f"`{asked[1]}`"
+    if text == "tie.close" or file.startswith("src/"):
+        return "the contract of a function that needs no proof file"
+    return f"`{text[:60]}`".replace("|", "\\|")
+
+
+def write_house(log, refused):
+    proved = {name: int(seconds) for name, seconds in re.findall(r"(?m)^rt: (\w+) proved \((\d+) s\)", log)}
+    rows, totals = [], [0] * 8
+    for crate in crates:
+        own = [seconds for name, (_, seconds) in refused.items() if name.startswith(f"{crate}/")]
+        row = [lines(crate, "src"), functions(crate), lines(crate, "specs"), lines(crate, "proofs", False),
+               lines(crate, "proofs", True), proved.get(crate, 0), len(own), sum(own)]
+        totals = [a + b for a, b in zip(totals, row)]
+        rows.append(f"| `{crate}` | " + " | ".join(f"{n:,}" for n in row) + " |")
+    rows.append("| **all** | " + " | ".join(f"{n:,}" for n in totals) + " |")
+    model = re.search(r"model name\s*: (.*)", Path("/proc/cpuinfo").read_text())
+    minutes = re.search(r"(?m)^gate: (\d+) minutes$", log)
+    _, mark, kept = HOUSE.read_text().partition(MARK)
+    HOUSE.write_text(f"""# The house in numbers
 
 Written by tests/house.py from the sources and the log of a gate's run. Lines count comments and blank ones. Seconds are of
 one job beside another on two cores; edits run after the crates, two at a time.
@@ -74,47 +86,93 @@ The whole gate: {minutes[1] if minutes else '?'} minutes on two cores ({model[1]
 
 | crate | code | functions | definitions | laws | functions' proofs | seconds | edits | their seconds |
 |---|---|---|---|---|---|---|---|---|
-''' + '\n'.join(table) + '\n')
+""" + "\n".join(rows) + "\n" + ("\n" + mark + kept if mark else ""))
 
 
-def stands_at(crate, place):
-    """What the prover was asked to show at a place of a proof: the name that the proof has for it, or the line itself."""
-    file, line = place.split(':')[:2]
-    path = root / 'crates' / crate / file
-    text = path.read_text().splitlines()[int(line) - 1].strip() if path.exists() else ''
-    asked = re.search(r'λ ([a-z][\w-]*)', text)
-    if asked:
-        return 'the contract' if len(asked[1]) == 1 or asked[1].startswith('returns') else f'`{asked[1]}`'
-    if text == 'tie.close' or file.startswith('src/'):
-        return 'the contract of a function that needs no proof file'
-    return f'`{text[:60]}`'.replace('|', '\\|')
+def write_edits(refused, folder):
+    at = {name: refused_at(name, folder) for name in refused}
+    of_code = [name for name in refused if changes(name) == "src"]
+    shape = {name: {True: "kept", False: "changed", None: "?"}[keeps_shape(name, folder)] for name in of_code}
+    rows = [f"| {name} | {does(name)} | {shape.get(name, 'a definition')} | {at[name]} | {place} | "
+            f"{stands_at(name.split('/')[0], place)} |" for name, (place, _) in refused.items()]
+    changed = [name for name in of_code if shape[name] != "kept"]
+    by_shape = [name for name in of_code if at[name] == "shape"]
+    paragraphs = [
+        f"""Written by tests/house.py from a gate's run. An edit of `crates/CRATE/must-fail` makes a wrong program, and the gate
+        fails unless the prover refuses it. There are {len(refused)}; {len(refused) - len(of_code)} of them change a definition,
+        the others code.""",
+        f"""Where an edit of code keeps its shape, which is the same operations in the same order with other operands, the proof
+        still fits it, and the prover can refuse it only at a fact that no longer holds. The compiler's output tells which do:
+        {len(shape) - len(changed)} of {len(shape)}. The others have an operation, a test or a call more, less or in another
+        order: {', '.join(changed) or 'none'}. Of these the prover's log tells, by the name of what is asked where it first
+        fails, which met no fact but only a proof that no longer fits, and so show nothing: {', '.join(by_shape) or 'none'}.
+        The gate fails where there is one."""]
+    said = "\n\n".join(textwrap.fill(" ".join(text.split()), 125, break_on_hyphens=False) for text in paragraphs)
+    EDITS.write_text(f"""# What the prover has to refuse
 
-
-rows = []
-for crate, name, place, seconds in refused:
-    said = (root / 'crates' / crate / 'must-fail' / f'{name}.edit').read_text().splitlines()[0].lstrip('# ')
-    rows.append(f'| {crate}/{name} | {said} | {place} | {stands_at(crate, place)} |')
-by_call = [f'| `anhkhovet_{call}` | {names.replace(" ", ", ")} |' for call, names in calls.items()]
-(root / 'docs/EDITS.md').write_text('''# What the prover has to refuse
-
-Written by tests/house.py from the log of a gate's run. An edit of `crates/CRATE/must-fail` makes a wrong program, and the gate
-fails unless the prover refuses it. Each keeps the shape of the code, so that it is refused at a fact.
+{said}
 
 ## Wrong programs by public call
 
 A call is a line or two over the crates below it, and its contract cites the same definition as theirs does: a program that is
-wrong there is wrong here.
+wrong there is wrong here. Each edit names its calls itself, in a line `# call:`.
 
 | call | wrong programs |
 |---|---|
-''' + '\n'.join(by_call) + '''
+""" + "\n".join(calls_table()) + """
 
 ## All of them
 
 The first error of each log: where it stands in the edited crate, and what was to be shown there: the contract, what a callee
 asks for (`..-requires`), a loop's invariant (`loop-again`), or what the line of the proof says.
 
-| edit | what it does | first error | what was to be shown |
-|---|---|---|---|
-''' + '\n'.join(rows) + '\n')
-print(f'{len(crates)} crates, {len(refused)} edits')
+| edit | what it does | shape | refused at | first error | what was to be shown |
+|---|---|---|---|---|---|
+""" + "\n".join(rows) + "\n")
+
+
+def rows_of(page, cells):
+    """The rows of a page's table that has so many cells: not its head, nor the sums."""
+    rows = [[cell.strip() for cell in re.split(r"(?<!\\)\|", line)[1:-1]] for line in page.splitlines() if line.startswith("|")]
+    return [row for row in rows if len(row) == cells and not set(row[0]) <= {"-"} and not row[0].startswith("**")][1:]
+
+
+def unlike(page, rows, what, wanted):
+    """Rows that a page lacks, and rows of what is not there."""
+    there = [row[0].strip("`") for row in rows]
+    yield from (f"docs/{page} has no row of the {what} {name}" for name in wanted if name not in there)
+    yield from (f"docs/{page} has a row of {name}, which is no {what}" for name in there if name not in wanted)
+
+
+def problems():
+    """Where the pages and the repository differ."""
+    page = EDITS.read_text()
+    of_edits, of_crates = rows_of(page, 6), rows_of(HOUSE.read_text().partition(MARK)[0], 9)
+    yield from unlike("EDITS.md", of_edits, "edit", list(edits))
+    yield from unlike("HOUSE.md", of_crates, "crate", crates)
+    yield from (f"docs/EDITS.md lacks the row {row}" for row in calls_table() if row not in page.splitlines())
+    for name, said, shape, at, *_ in of_edits:
+        if name in edits and (said != does(name) or "?" in (shape, at)):
+            yield f"docs/EDITS.md tells {name} otherwise than the edit does, or not what it is refused at"
+    for crate, *_, count, _ in of_crates:
+        own = sum(name.startswith(crate.strip("`") + "/") for name in edits)
+        if count != str(own):
+            yield f"docs/HOUSE.md tells of {count} edits of {crate}, which has {own}"
+    for name in edits:
+        if changes(name) != "specs" and refused_at(name, root) == "shape":
+            yield f"{name} only breaks the code's shape: target/must-fail/{name}/.log"
+
+
+if sys.argv[1:]:
+    said = Path(sys.argv[1]).read_text()
+    found = re.findall(r"(?m)^rt: must-fail (\w+/\w+): refused, as it must be \((?:first at ([^;]*); )?(\d+) s\)", said)
+    by_name = {name: (place, int(seconds)) for name, place, seconds in found if name in edits}
+    where = Path(sys.argv[2]) if sys.argv[2:] else root
+    write_house(said, by_name)
+    write_edits(by_name, where)
+    print(f"{len(crates)} crates, {len(by_name)} edits")
+    for name in edits.keys() - by_name.keys():
+        print(f"not in the log: {name}")
+else:
+    for problem in problems():
+        print(problem)

@@ -6,14 +6,14 @@ ALL_ONES = 2**64 - 1
 
 
 def kdmv(capacity=16, size=8, directory=1, version=1, flags=1, descriptor=(0, 0), entries=512, redundant=0,
-         newline=b"\n \r\n", compression=0):
+         newline=b"\n \r\n", compression=0, overhead=128, dirty=0, padding=0):
     head = b"KDMV" + struct.pack("<II", version, flags) + struct.pack("<QQQQ", capacity, size, *descriptor)
-    head += struct.pack("<IQQQ", entries, redundant, directory, 128) + b"\0" + newline + struct.pack("<H", compression)
-    return head.ljust(SECTOR, b"\0")
+    head += struct.pack("<IQQQB", entries, redundant, directory, overhead, dirty) + newline + struct.pack("<H", compression)
+    return head.ljust(SECTOR, bytes([padding]))
 
 
-def cowd(capacity=16, size=8, directory=4, count=1, version=1):
-    return (b"COWD" + struct.pack("<IIIIII", version, 3, capacity, size, directory, count)).ljust(4 * SECTOR, b"\0")
+def cowd(capacity=16, size=8, directory=4, count=1, version=1, flags=3):
+    return (b"COWD" + struct.pack("<IIIIII", version, flags, capacity, size, directory, count)).ljust(4 * SECTOR, b"\0")
 
 
 def image(sectors, *parts, extra=0):

@@ -1,14 +1,15 @@
 #!/usr/bin/env python3
-"""Writes tests/cases/pairings, which the program `cases` is run on, and what it must print.
+"""Writes tests/cases/pairings, which the program `cases` is run on, and what it must print. pairings.py [FOLDER] writes it
+below another folder than tests.
 
-A layer is a list of grains: None (absent), ZERO, or the bytes of a stored one. Images are built from it in layouts of many
-kinds; what a collapse must give is computed from the lists and from document 01's 'The collapsed image' alone. Nothing here
-reads an image.
+Each case has a label and one to four layers. A layer is a list of grains: None (absent), ZERO, or the bytes of a stored one.
+Images are built from it in layouts of many kinds; what a collapse must give is computed from the lists and from document
+01's 'The collapsed image' alone. Nothing here reads an image.
 """
 import random
 import struct
 
-from asked import COLLAPSE, case, digest, line, write
+from asked import COLLAPSE, case, digest, label, line, main, write_cases
 from images import SECTOR, cowd, entries, image, kdmv, small
 
 ZERO = "zero"
@@ -93,28 +94,29 @@ def layer(capacity, size, grains, shuffle=0, whole=True, tail=b"", redundant=Fal
 
 
 # ---- cases
-CASES, LINES = [], []
+CASES, LINES, LABELS = [], [], []
 
 
-def told(images, number, place, result, room=ROOM, orders=1):
+def told(name, images, number, place, result, room=ROOM, orders=1):
     """A case, and the line for each order of pairing."""
+    label(LABELS, name)
     CASES.append(case(COLLAPSE, b"".join(images), lengths=[len(i) for i in images], room=room))
     call = "collapse" if images[1:] else "normal"
     LINES.extend([line(call, number, place, len(result), digest(result + MARK * (room - len(result))))] * orders)
 
 
-def chain(capacity, size, layers, **how):
+def chain(name, capacity, size, layers, **how):
     """A chain of layers, given as grains: each order of pairing, of four one twice, gives the same bytes."""
     images = [layer(capacity, size, grains, shuffle=i, **how) for i, grains in enumerate(layers)]
-    told(images, 0, 0, collapsed(capacity, size, merged(layers)), orders={1: 1, 2: 1, 3: 2, 4: 6}[len(layers)])
+    told(name, images, 0, 0, collapsed(capacity, size, merged(layers)), orders={1: 1, 2: 1, 3: 2, 4: 6}[len(layers)])
 
 
-def refused(number, *images, place=0, room=ROOM):
-    told(images, number, place, b"", room)
+def refused(name, number, *images, place=0, room=ROOM):
+    told(name, images, number, place, b"", room)
 
 
-def written(images, result, room):
-    told(images, 0, 0, result, room)
+def written(name, images, result, room):
+    told(name, images, 0, 0, result, room)
 
 
 # one grain of each kind over each other, capacity at a grain's end and inside one: 8 grains of 8 sectors
@@ -125,27 +127,28 @@ for capacity in (57, 64):
     middle = [None, ZERO, B, None, B, None, ZERO, B]
     third = [C, None, ZERO, C, None, None, C, None]
     top = [None, None, NOTHING, ZERO, None, ZERO, NOTHING, D]
-    chain(capacity, 8, [base])
-    chain(capacity, 8, [base, middle])
-    chain(capacity, 8, [base, middle, third])
-    chain(capacity, 8, [base, third, top], redundant=True)
-    chain(capacity, 8, [base, middle, third, top])
-    chain(capacity, 8, [top, third, middle, base], described=True)
-    chain(capacity, 8, [middle, base, top, third], redundant=True, described=True)
-    chain(capacity, 8, [[None] * 8, [ZERO] * 8, [None] * 8, [None] * 8])
-    chain(capacity, 8, [[NOTHING] * 8, [None] * 8, [None] * 8, [None] * 8], whole=False)
-    chain(capacity, 8, [[A] * 8, [ZERO] * 8, [None] * 8, [None] * 7 + [D]], whole=False)
+    chain(f"one-layer-{capacity}", capacity, 8, [base])
+    chain(f"two-layers-{capacity}", capacity, 8, [base, middle])
+    chain(f"three-layers-{capacity}", capacity, 8, [base, middle, third])
+    chain(f"three-redundant-{capacity}", capacity, 8, [base, third, top], redundant=True)
+    chain(f"four-layers-{capacity}", capacity, 8, [base, middle, third, top])
+    chain(f"four-described-{capacity}", capacity, 8, [top, third, middle, base], described=True)
+    chain(f"four-redundant-{capacity}", capacity, 8, [middle, base, top, third], redundant=True, described=True)
+    chain(f"zero-over-absent-{capacity}", capacity, 8, [[None] * 8, [ZERO] * 8, [None] * 8, [None] * 8])
+    chain(f"stored-zeros-{capacity}", capacity, 8, [[NOTHING] * 8, [None] * 8, [None] * 8, [None] * 8], whole=False)
+    chain(f"zero-over-stored-{capacity}", capacity, 8, [[A] * 8, [ZERO] * 8, [None] * 8, [None] * 7 + [D]], whole=False)
 # the least capacity, and bytes past the last whole sector
-chain(1, 8, [[A], [None], [B]])
-chain(16, 8, [[A, None], [ZERO, B], [None, ZERO], [None, None]], tail=b"past" * 100)
+chain("capacity-1", 1, 8, [[A], [None], [B]])
+chain("past-last-sector", 16, 8, [[A, None], [ZERO, B], [None, ZERO], [None, None]], tail=b"past" * 100)
+chain("past-last-sector-alone", 16, 8, [[A, ZERO]], tail=b"past" * 100)
 # larger grains, where the gap is long
-chain(40, 16, [[bytes_of(7, 16), None, ZERO], [None, bytes_of(8, 16), None], [ZERO, None, bytes_of(9, 16)]])
-chain(65, 64, [[bytes_of(10, 64), None], [None, ZERO], [None, None], [None, None]])
+chain("grain-size-16", 40, 16, [[bytes_of(7, 16), None, ZERO], [None, bytes_of(8, 16), None], [ZERO, None, bytes_of(9, 16)]])
+chain("grain-size-64", 65, 64, [[bytes_of(10, 64), None], [None, ZERO], [None, None], [None, None]])
 # two tables, the second with one grain in use, and told by the directory alone
 FAR = [None] * 513
-chain(4097, 8, [FAR[:-1] + [A], FAR, [ZERO] + FAR[1:], FAR])
-chain(4097, 8, [FAR[:-1] + [A], [ZERO] * 513, FAR[:511] + [B, None]])
-chain(4104, 8, [FAR[:512] + [A], FAR[:512] + [ZERO], [None] * 511 + [C, None]], whole=False)
+chain("two-tables", 4097, 8, [FAR[:-1] + [A], FAR, [ZERO] + FAR[1:], FAR])
+chain("two-tables-zero", 4097, 8, [FAR[:-1] + [A], [ZERO] * 513, FAR[:511] + [B, None]])
+chain("two-tables-whole", 4104, 8, [FAR[:512] + [A], FAR[:512] + [ZERO], [None] * 511 + [C, None]], whole=False)
 
 # random chains of three and four
 for seed in range(16):
@@ -153,32 +156,48 @@ for seed in range(16):
     capacity = dice.randint(1, 64)
     layers = [[dice.choice([None, None, ZERO, NOTHING, bytes_of(dice.random(), 8)]) for _ in range(up(capacity, 8))]
               for _ in range(dice.choice([3, 4, 4]))]
-    chain(capacity, 8, layers, redundant=dice.random() < 0.3, described=dice.random() < 0.3, whole=dice.random() < 0.5)
+    chain(f"random-{seed}", capacity, 8, layers, redundant=dice.random() < 0.3, described=dice.random() < 0.3,
+          whole=dice.random() < 0.5)
 
 # ---- refusals, and the output's edge. The lower's check, the upper's check, 23, 22, 21
-LOW, HIGH = small(8, 0), small(0, 8)
+LOW, HIGH = small(8, 0)[:8 * SECTOR] + A, small(0, 8)[:8 * SECTOR] + B
 RESULT = collapsed(16, 8, [LOW[8 * SECTOR:], HIGH[8 * SECTOR:]])
+NORMAL = collapsed(16, 8, [LOW[8 * SECTOR:], None])
+ABSENT = small(0, 0)
 WIDE = small(8, 0, head=kdmv(24))
 PACKED = image(16, (0, kdmv(flags=0x10001, compression=1)), (1, entries(2)))
 COWD = image(38, (0, cowd(16, 8)), (4, entries(5)), (5, entries(0, 37)))[:37 * SECTOR] + bytes(8 * SECTOR)
-written([LOW, HIGH], RESULT, len(RESULT))
-written([LOW, HIGH], RESULT, len(RESULT) + 1)
-written([LOW], collapsed(16, 8, [LOW[8 * SECTOR:], None]), 8192)
-refused(21, LOW, HIGH, room=len(RESULT) - 1)
-refused(21, LOW, room=8191)
-refused(21, LOW, room=0)
-refused(2, b"abcd", b"")
-refused(1, LOW, b"")
-refused(9, small(9, 0), b"abcd")
-refused(9, LOW, small(8, 9), place=1)
-refused(12, LOW, small(8, 8))
-refused(12, small(8, 8))
-refused(8, small(8, 0, head=kdmv(directory=0)))
-refused(23, COWD, WIDE)
-refused(23, WIDE, PACKED, room=0)
-refused(23, COWD)
-refused(23, PACKED)
-refused(22, LOW, WIDE, room=0)
-refused(22, LOW, small(8, 0, head=kdmv(size=16), sectors=32))
+written("room-exact", [LOW, HIGH], RESULT, len(RESULT))
+written("room-byte-more", [LOW, HIGH], RESULT, len(RESULT) + 1)
+written("one-stored-grain", [LOW], NORMAL, 8192)
+written("normal-form-again", [NORMAL], NORMAL, 8192)
+written("itself", [LOW, LOW], NORMAL, 8192)
+written("absent-below", [ABSENT, LOW], NORMAL, 8192)
+written("absent-above", [LOW, ABSENT], NORMAL, 8192)
+refused("room-byte-short", 21, LOW, HIGH, room=len(RESULT) - 1)
+refused("room-8191", 21, LOW, room=8191)
+refused("room-0", 21, LOW, room=0)
+refused("lower-magic-first", 2, b"abcd", b"")
+refused("upper-of-no-bytes", 1, LOW, b"")
+refused("lower-grain-first", 9, small(9, 0), b"abcd")
+refused("upper-grain-past", 9, LOW, small(8, 9), place=1)
+refused("upper-overlap", 12, LOW, small(8, 8))
+refused("overlap", 12, small(8, 8))
+refused("directory-0", 8, small(8, 0, head=kdmv(directory=0)))
+refused("upper-before-23", 1, COWD, b"")
+refused("lower-cowd", 23, COWD, WIDE)
+refused("upper-packed", 23, WIDE, PACKED, room=0)
+refused("cowd", 23, COWD)
+refused("packed", 23, PACKED)
+refused("check-before-23", 3, image(64, (0, cowd(version=2))), room=0)
+refused("23-before-21", 23, COWD, room=0)
+refused("capacities-differ", 22, LOW, WIDE, room=0)
+refused("grain-sizes-differ", 22, LOW, small(8, 0, head=kdmv(size=16), sectors=32))
 
-write("pairings", CASES, LINES)
+
+def write(folder):
+    write_cases(folder, "pairings", CASES, LINES)
+
+
+if __name__ == "__main__":
+    main(write)

@@ -76,14 +76,14 @@ pub fn measure(setup: &Setup, report: &mut Report) -> Outcome {
     } in texts()
     {
         let text = text.as_bytes();
-        let expected = plain::describe(text, MOST_EXTENTS);
+        let expected = plain::descriptor(text, MOST_EXTENTS);
         agree("descriptor", &expected.0.number, &number)?;
         agree("descriptor", &side::describe(text), &expected)?;
         let each = |time| Figure::each(time, MOST_TEXT as u64, " a byte");
         let ours = best(rounds, || side::describe(text));
         let label = format!("{} bytes, {label}", grouped(MOST_TEXT as u64));
         report.measure("descriptor", &label, &Ok(each(ours)));
-        let plain = best(rounds, || plain::describe(text, MOST_EXTENTS));
+        let plain = best(rounds, || plain::descriptor(text, MOST_EXTENTS));
         report.against("plain", &Ok(each(plain)));
         let pass = best(rounds, || sum(text));
         report.against("a sum of the bytes, one by one", &Ok(each(pass)));
@@ -114,7 +114,7 @@ fn newlines(text: &[u8]) -> u64 {
 fn texts_of_the_greatest_length() {
     for text in texts() {
         assert_eq!(text.text.len(), MOST_TEXT, "{}", text.label);
-        let described = plain::describe(text.text.as_bytes(), MOST_EXTENTS).0;
+        let described = plain::descriptor(text.text.as_bytes(), MOST_EXTENTS).0;
         assert_eq!(described.number, text.number, "{}", text.label);
     }
     assert_eq!((sum(b"ab"), newlines(b"a\n\nb")), (195, 2));

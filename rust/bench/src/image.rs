@@ -154,7 +154,7 @@ mod tests {
             assert_eq!(stored, (grain % 3 == 1).then(|| bytes[at..].as_ptr()));
         }
         let text = &bytes[512..512 * 21];
-        assert_eq!(plain::describe(text, 1).0.number, 0);
+        assert_eq!(plain::descriptor(text, 1).0.number, 0);
     }
 
     #[test]

@@ -51,7 +51,7 @@ mod stand_in {
     }
 
     pub fn describe(text: &[u8]) -> (Described, Vec<Extent>) {
-        plain::describe(text, plain::MOST_EXTENTS)
+        plain::descriptor(text, plain::MOST_EXTENTS)
     }
 }
 

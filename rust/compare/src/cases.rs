@@ -231,7 +231,7 @@ fn one_text(run: &mut Run, rng: &mut Rng, which: u64) {
     } else {
         text::damage(rng, sound, which)
     };
-    let count = plain::describe(&text, usize::MAX).0.extents;
+    let count = plain::descriptor(&text, usize::MAX).0.extents;
     for _ in 0..2 {
         let room = match rng.below(5) {
             0 => count.saturating_sub(1),
@@ -240,6 +240,6 @@ fn one_text(run: &mut Run, rng: &mut Rng, which: u64) {
             _ => rng.pick(&[0, 32, 40]),
         };
         let list: Vec<Extent> = (0..room).map(|_| lists::record(rng)).collect();
-        run.describe(&text, &list);
+        run.descriptor(&text, &list);
     }
 }

@@ -224,10 +224,10 @@ impl<'a> Run<'a> {
         }
     }
 
-    pub fn describe(&mut self, text: &[u8], list: &[Extent]) {
+    pub fn descriptor(&mut self, text: &[u8], list: &[Extent]) {
         let mut lists = [list.to_vec(), list.to_vec()];
-        let tested = self.sides[0].describe(text, &mut lists[0]);
-        let plain = self.sides[1].describe(text, &mut lists[1]);
+        let tested = self.sides[0].descriptor(text, &mut lists[0]);
+        let plain = self.sides[1].descriptor(text, &mut lists[1]);
         let lent = lists[0] == lists[1];
         let words = (list.len(), if lent { &[] } else { &lists[..] });
         self.compare(Call::Descriptor, [&tested, &plain], lent, &[text], &words);

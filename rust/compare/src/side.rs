@@ -10,7 +10,7 @@ pub trait Side {
     fn read(&self, image: &[u8], sector: u64) -> Part;
     fn normal(&self, image: &[u8], out: &mut [u8]) -> Written;
     fn collapse(&self, lower: &[u8], upper: &[u8], out: &mut [u8]) -> Written;
-    fn describe(&self, text: &[u8], list: &mut [Extent]) -> Described;
+    fn descriptor(&self, text: &[u8], list: &mut [Extent]) -> Described;
     fn find(&self, list: &[Extent], sector: u64) -> Found;
 }
 
@@ -39,8 +39,8 @@ impl Side for Plain {
     fn collapse(&self, lower: &[u8], upper: &[u8], out: &mut [u8]) -> Written {
         plain::over(plain::collapse(lower, upper, out.len()), out)
     }
-    fn describe(&self, text: &[u8], list: &mut [Extent]) -> Described {
-        let (described, extents) = plain::describe(text, list.len());
+    fn descriptor(&self, text: &[u8], list: &mut [Extent]) -> Described {
+        let (described, extents) = plain::descriptor(text, list.len());
         list[..extents.len()].copy_from_slice(&extents);
         described
     }
@@ -87,7 +87,7 @@ mod proved {
         fn collapse(&self, lower: &[u8], upper: &[u8], out: &mut [u8]) -> Written {
             same!(anhkhovet::collapse(lower, upper, out) => Written { number, place, length })
         }
-        fn describe(&self, text: &[u8], list: &mut [Extent]) -> Described {
+        fn descriptor(&self, text: &[u8], list: &mut [Extent]) -> Described {
             let mut records: Vec<Record> = list.iter().map(record).collect();
             let described = anhkhovet::descriptor(text, &mut records);
             for (to, from) in list.iter_mut().zip(&records) {

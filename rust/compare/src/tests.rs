@@ -3,7 +3,7 @@
 use crate::image::{build, suited, unused, Built, Cell, Plan, Shape, What};
 use crate::rng::Rng;
 use crate::text;
-use plain::{check, collapse, describe, lookup, normal, read, ABSENT, PACKED, STORED, ZERO};
+use plain::{check, collapse, descriptor, lookup, normal, read, ABSENT, PACKED, STORED, ZERO};
 use std::collections::BTreeSet;
 
 fn sound(rng: &mut Rng, plan: Plan) -> Built {
@@ -121,7 +121,7 @@ fn sound_texts_are_described() {
     for case in 0..3000 {
         let rng = &mut Rng::new(8, case);
         let text = text::sound(rng).bytes();
-        let (described, list) = describe(&text, 32);
+        let (described, list) = descriptor(&text, 32);
         let shown = || String::from_utf8_lossy(&text).into_owned();
         assert_eq!(described.number, 0, "{case}: {}", shown());
         for extent in list {

@@ -98,8 +98,8 @@ impl Side for Mistake {
         Plain.collapse(lower, upper, out)
     }
 
-    fn describe(&self, text: &[u8], list: &mut [Extent]) -> Described {
-        let mut described = Plain.describe(text, list);
+    fn descriptor(&self, text: &[u8], list: &mut [Extent]) -> Described {
+        let mut described = Plain.descriptor(text, list);
         let past = described.number == 0 && *self == RecordPastTheLast;
         let refused = described.number != 0 && *self == RecordOnRefusal;
         if let (true, Some(record)) = (past || refused, list.get_mut(described.extents as usize)) {

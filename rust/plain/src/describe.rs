@@ -11,7 +11,7 @@ pub const MOST_EXTENTS: usize = 32;
 const MOST_SECTORS: u64 = 1 << 31;
 
 /// The public call, for a lent list of `room` records: the answer, and the records that the list then starts with.
-pub fn describe(text: &[u8], room: usize) -> (Described, Vec<Extent>) {
+pub fn descriptor(text: &[u8], room: usize) -> (Described, Vec<Extent>) {
     match judge(text, room) {
         Ok(answer) => answer,
         Err(refusal) => {

@@ -19,7 +19,7 @@ pub use answers::{
 };
 pub use chain::chain;
 pub use check::check;
-pub use describe::{describe, find, MOST_EXTENTS, MOST_TEXT};
+pub use describe::{descriptor, find, MOST_EXTENTS, MOST_TEXT};
 pub use header::header;
 pub use lookup::{lookup, read};
 pub use write::{collapse, normal, over};

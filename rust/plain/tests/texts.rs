@@ -1,11 +1,11 @@
 //! The descriptor's grammar, both sides of its edges.
 
-use plain::{describe, find, Extent};
+use plain::{descriptor, find, Extent};
 
 const SOUND: &str = "# Disk DescriptorFile\nversion=1\nCID=fffffffe\nparentCID=ffffffff\ncreateType=\"monolithicSparse\"\n\nRW 100 SPARSE \"a.vmdk\"\n";
 
 fn refused(text: &str) -> (u64, u64) {
-    let (answer, list) = describe(text.as_bytes(), 32);
+    let (answer, list) = descriptor(text.as_bytes(), 32);
     assert!(answer.number == 0 || list.is_empty());
     (answer.number, answer.place)
 }
@@ -16,7 +16,7 @@ fn with(line: &str) -> (u64, u64) {
 
 #[test]
 fn a_sound_text() {
-    let (answer, list) = describe(SOUND.as_bytes(), 1);
+    let (answer, list) = descriptor(SOUND.as_bytes(), 1);
     assert_eq!((answer.number, answer.extents, answer.version), (0, 1, 1));
     assert_eq!((answer.cid, answer.parent_cid), (0xffff_fffe, 0xffff_ffff));
     let place = |word: &str| SOUND.find(word).unwrap() as u64;
@@ -26,7 +26,7 @@ fn a_sound_text() {
     );
     assert_eq!((list[0].name_at, list[0].name_length), (place("a.vmdk"), 6));
     assert_eq!((list[0].access, list[0].kind, list[0].sectors), (1, 3, 100));
-    assert_eq!(describe(SOUND.as_bytes(), 0).0.number, 21);
+    assert_eq!(descriptor(SOUND.as_bytes(), 0).0.number, 21);
 }
 
 #[test]
@@ -122,9 +122,9 @@ fn whole_texts() {
     assert_eq!(with(&"RW 1 ZERO\n".repeat(32)), (35, 0));
     let mut text = SOUND.as_bytes().to_vec();
     text.resize(65_536, 0);
-    assert_eq!(describe(&text, 32).0.number, 0);
+    assert_eq!(descriptor(&text, 32).0.number, 0);
     text.push(0);
-    assert_eq!(describe(&text, 32).0.number, 36);
+    assert_eq!(descriptor(&text, 32).0.number, 36);
 }
 
 #[test]

@@ -61,7 +61,7 @@ const HELD: [Extent; 4] = [Extent {
 /// A text's answer, and the list of four after it.
 pub fn handed_over(text: &[u8]) -> (Described, [Extent; 4]) {
     let mut list = HELD;
-    let (described, extents) = plain::describe(text, list.len());
+    let (described, extents) = plain::descriptor(text, list.len());
     list[..extents.len()].copy_from_slice(&extents);
     (described, list)
 }

@@ -91,7 +91,7 @@ impl Case {
     /// The records that a text comes to, or that the bytes hold.
     fn records(&self) -> Vec<Extent> {
         if self.asked == TEXT {
-            return plain::describe(&self.bytes, plain::MOST_EXTENTS).1;
+            return plain::descriptor(&self.bytes, plain::MOST_EXTENTS).1;
         }
         let mut input = Input::new(&self.bytes);
         (0..SEARCHED).map(|_| read_extent(&mut input)).collect()

@@ -95,13 +95,13 @@ impl Side for Recorder {
         });
         Plain.collapse(lower, upper, out)
     }
-    fn describe(&self, text: &[u8], list: &mut [Extent]) -> Described {
+    fn descriptor(&self, text: &[u8], list: &mut [Extent]) -> Described {
         self.keep(Case {
             asked: TEXT,
             bytes: text.to_vec(),
             ..Case::default()
         });
-        Plain.describe(text, list)
+        Plain.descriptor(text, list)
     }
     fn find(&self, list: &[Extent], sector: u64) -> Found {
         // The program's list has one length: records of no sectors fill it, and longer lists are left out.
