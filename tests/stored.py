@@ -1,14 +1,16 @@
 #!/usr/bin/env python3
 """Writes what tests/*.py store below tests anew, in a temporary folder, and prints each file that differs from the stored
 one, is missing or is too many: tests/stored.py. Whatever has a function write(folder) is such a script; a folder that none
-writes has its own script `make`, which needs other programs."""
+writes has its own script `make`, which needs other programs. What rust/vectors stores there its own tests compare."""
 import contextlib
 import importlib
 import io
 import pathlib
+import re
 import tempfile
 
 HERE = pathlib.Path(__file__).resolve().parent
+vectors = re.findall(r'"tests/(cases/\w+)"', (HERE.parent / "rust/vectors/src/stored.rs").read_text())
 scripts = [path.stem for path in sorted(HERE.glob("*.py")) if "\ndef write(folder):" in path.read_text()]
 
 
@@ -31,6 +33,8 @@ for folder in HERE.iterdir():
     if folder.is_dir() and folder.name not in [*folders, "__pycache__"] and not (folder / "make").exists():
         print(f"nothing writes tests/{folder.name}")
 for path in sorted(old.keys() | new.keys()):
+    if str(path.with_suffix("")) in vectors:
+        continue
     if path not in old:
         print(f"tests/{path} is not stored")
     elif path not in new:
