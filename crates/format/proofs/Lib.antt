@@ -1,4 +1,8 @@
 pub mod Images
+pub mod Examples
+pub mod ExamplesHeader
+pub mod ExamplesFooter
+pub mod ExamplesCheck
 pub mod Geometry
 pub mod Entries
 pub mod Areas
