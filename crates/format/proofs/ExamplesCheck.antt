@@ -28,9 +28,8 @@ use Rattle.format.specs.declared.Refusal.the-variants.{Misplaced, GrainP
 use Rattle.format.specs.declared.HeaderAnswer.the-variants.{Known}
 use Rattle.format.specs.declared.CheckAnswer.the-variants.{Accepted, Refused}
 use Rattle.format.proofs.Examples.{Example, example, Hold}
-use Rattle.format.proofs.Images.{with, kdmvSector, packed, doubled}
+use Rattle.format.proofs.Images.{with, kdmvSector, packed, doubled, plainHeader, streamHeader}
 use Rattle.format.proofs.HeaderFooter.{kept-footer}
-use Rattle.format.proofs.ExamplesFooter.{streamHeader}
 
 -- the check of an image whose header is known
 checked : (s : List ℕ) (h : Header) → judge s ≡ Known h → check s ≡ checkLayout s h
@@ -74,26 +73,6 @@ streams-checked = (
 )
 
 -- ---- two directories
--- the header of `doubled` with a descriptor of some sectors, and the directory's sector
-abbrev doubledHeader : ℕ → ℕ → ℕ → ℕ → Header
-doubledHeader descriptor descriptorSectors directory redundant =
-    record {
-      cowd = false;
-      capacity = 16;
-      «grain_size» = 8;
-      «header_sectors» = 1;
-      descriptor = descriptor;
-      «descriptor_sectors» = descriptorSectors;
-      directory = directory;
-      «directory_sectors» = 1;
-      redundant = redundant;
-      «entries_per_table» = 512;
-      «table_sectors» = 4;
-      «one_is_zero» = true;
-      packed = false;
-      footer = false;
-    }
-
 pub copies-checked :
     (check doubled ≡ Accepted 16 8)
     -- 8: a table of either past F
@@ -108,7 +87,7 @@ pub copies-checked :
     × (check (with 1540 4 4 (with 3588 4 4 doubled)) ≡ Refused SharedSector)
 unfolding pick powerUpTo leAt leBytes sameAt over zeros rows grains directoryEntries directorySectors kdmvFields kdmvFault kdmvHeader directoryOf unlessFault withFooter judgeKdmv judge meaning inTable entryOfGrain grainSectors anyBelow ifThere named redundantTables areas runsPast shares sharesAny meet misplaced lowestFrom copyDiffers copiesDiffer unlessGrain checkApart checkCopies checkGrains checkLayout
 copies-checked =
-    let h = doubledHeader 11 1 1 2 in (
+    let h = plainHeader 11 1 1 2 in (
       checked doubled h refl,
       checked (with 512 4 9 doubled) h refl,
       checked (with 1024 4 9 doubled) h refl,
@@ -122,19 +101,19 @@ copies-checked =
 abbrev tests : List (Example Bool)
 tests =
     -- 8, where F is 12: the descriptor's numbers are both zero or both not, and the descriptor is not past F
-    example (descriptorMisplaced 12 (doubledHeader 0 0 1 2)) false
-    ∷ example (descriptorMisplaced 12 (doubledHeader 0 1 1 2)) true
-    ∷ example (descriptorMisplaced 12 (doubledHeader 11 0 1 2)) true
-    ∷ example (descriptorMisplaced 12 (doubledHeader 11 1 1 2)) false
-    ∷ example (descriptorMisplaced 12 (doubledHeader 11 2 1 2)) true
-    ∷ example (descriptorMisplaced 12 (doubledHeader 0xffffffffffffffff 1 1 2)) true
+    example (descriptorMisplaced 12 (plainHeader 0 0 1 2)) false
+    ∷ example (descriptorMisplaced 12 (plainHeader 0 1 1 2)) true
+    ∷ example (descriptorMisplaced 12 (plainHeader 11 0 1 2)) true
+    ∷ example (descriptorMisplaced 12 (plainHeader 11 1 1 2)) false
+    ∷ example (descriptorMisplaced 12 (plainHeader 11 2 1 2)) true
+    ∷ example (descriptorMisplaced 12 (plainHeader 0xffffffffffffffff 1 1 2)) true
     -- directory sector 0, the directory past F, the redundant one past F or none
-    ∷ example (directoryMisplaced 12 (doubledHeader 0 0 0 2)) true
-    ∷ example (directoryMisplaced 12 (doubledHeader 0 0 11 2)) false
-    ∷ example (directoryMisplaced 12 (doubledHeader 0 0 12 2)) true
-    ∷ example (redundantDirectoryMisplaced 12 (doubledHeader 0 0 1 11)) false
-    ∷ example (redundantDirectoryMisplaced 12 (doubledHeader 0 0 1 12)) true
-    ∷ example (redundantDirectoryMisplaced 0 (doubledHeader 0 0 1 0)) false
+    ∷ example (directoryMisplaced 12 (plainHeader 0 0 0 2)) true
+    ∷ example (directoryMisplaced 12 (plainHeader 0 0 11 2)) false
+    ∷ example (directoryMisplaced 12 (plainHeader 0 0 12 2)) true
+    ∷ example (redundantDirectoryMisplaced 12 (plainHeader 0 0 1 11)) false
+    ∷ example (redundantDirectoryMisplaced 12 (plainHeader 0 0 1 12)) true
+    ∷ example (redundantDirectoryMisplaced 0 (plainHeader 0 0 1 0)) false
     -- 11: 0 and 1 stand exactly where they stand in the other directory
     ∷ example (copyDiffers [] 1 Absent Absent) false
     ∷ example (copyDiffers [] 1 Absent Zero) true
@@ -172,19 +151,19 @@ abbrev listed : List (Example (List Area))
 listed =
     example (headerArea (streamHeader 1)) (area 0 1 ∷ [])
     ∷ example (descriptorArea (streamHeader 1)) (area 9 1 ∷ [])
-    ∷ example (descriptorArea (doubledHeader 0 0 1 2)) []
-    ∷ example (directoryArea (doubledHeader 0 0 7 2)) (area 7 1 ∷ [])
-    ∷ example (redundantArea (doubledHeader 0 0 1 2)) (area 2 1 ∷ [])
-    ∷ example (redundantArea (doubledHeader 0 0 1 0)) []
+    ∷ example (descriptorArea (plainHeader 0 0 1 2)) []
+    ∷ example (directoryArea (plainHeader 0 0 7 2)) (area 7 1 ∷ [])
+    ∷ example (redundantArea (plainHeader 0 0 1 2)) (area 2 1 ∷ [])
+    ∷ example (redundantArea (plainHeader 0 0 1 0)) []
     -- the footer is F-2 and the last sector F-1, where there is a footer
     ∷ example (footerArea (zeros 2560) (streamHeader 1)) (area 3 1 ∷ [])
     ∷ example (lastArea (zeros 2560) (streamHeader 1)) (area 4 1 ∷ [])
-    ∷ example (footerArea (zeros 2560) (doubledHeader 0 0 1 0) ++ lastArea (zeros 2560) (doubledHeader 0 0 1 0)) []
+    ∷ example (footerArea (zeros 2560) (plainHeader 0 0 1 0) ++ lastArea (zeros 2560) (plainHeader 0 0 1 0)) []
     -- a table takes 4 sectors; entries 0 and 1 name none
-    ∷ example (primaryTables (zeros 512 ++ leBytes 4 7) (doubledHeader 0 0 1 0)) (area 7 4 ∷ [])
-    ∷ example (primaryTables (zeros 512 ++ leBytes 4 1) (doubledHeader 0 0 1 0)) []
-    ∷ example (redundantTables (zeros 512 ++ leBytes 4 7) (doubledHeader 0 0 2 1)) (area 7 4 ∷ [])
-    ∷ example (redundantTables (leBytes 4 7) (doubledHeader 0 0 2 0)) []
+    ∷ example (primaryTables (zeros 512 ++ leBytes 4 7) (plainHeader 0 0 1 0)) (area 7 4 ∷ [])
+    ∷ example (primaryTables (zeros 512 ++ leBytes 4 1) (plainHeader 0 0 1 0)) []
+    ∷ example (redundantTables (zeros 512 ++ leBytes 4 7) (plainHeader 0 0 2 1)) (area 7 4 ∷ [])
+    ∷ example (redundantTables (leBytes 4 7) (plainHeader 0 0 2 0)) []
     -- a stored grain takes its size; a packed one 12 bytes and its own: with 500 one sector, with 501 two
     ∷ example (named (grainSectors [] false 8) (Sector 9)) (area 9 8 ∷ [])
     ∷ example (named (grainSectors (marker 0 500) true 8) (Sector 0)) (area 0 1 ∷ [])

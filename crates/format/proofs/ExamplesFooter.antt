@@ -1,11 +1,10 @@
 -- Streams, whose directory a footer tells: refusal 7 on both sides of each rule, and what is told. A comparison of sectors by
 -- `sameAt` takes long to compute, so each rule is computed in the form that `Accepted` declares.
 use Prim.Native.Nat.{ℕ}
-use mathlib.Core.List.{List, [], _∷_, _++_}
+use mathlib.Core.List.{List, [], _++_}
 use mathlib.Core.Path.{_≡_, refl, ap, _∙_}
-use mathlib.Core.Bool.{true, false}
 use native.Mathlib.Omega.{arith}
-use lib.ListN.{getD, take, replicate}
+use lib.ListN.{getD, replicate}
 use Rattle.base.specs.Pick.{pick}
 use Rattle.base.specs.Rounding.{powerUpTo}
 use Rattle.base.specs.Numbers.{leAt, leBytes}
@@ -19,28 +18,8 @@ use Rattle.format.specs.Accepted.{FooterRules}
 use Rattle.format.specs.declared.Header.{Header}
 use Rattle.format.specs.declared.Refusal.the-variants.{Footer}
 use Rattle.format.specs.declared.HeaderAnswer.the-variants.{Known, Refused}
-use Rattle.format.proofs.Images.{with, stream, packed}
+use Rattle.format.proofs.Images.{with, stream, streamHeader}
 use Rattle.format.proofs.HeaderFooter.{footer-kept, kept-footer}
-
--- the header of a stream whose directory stands at a sector
-abbrev pub streamHeader : ℕ → Header
-streamHeader directory =
-    record {
-      cowd = false;
-      capacity = 16;
-      «grain_size» = 8;
-      «header_sectors» = 1;
-      descriptor = 9;
-      «descriptor_sectors» = 1;
-      directory = directory;
-      «directory_sectors» = 1;
-      redundant = 0;
-      «entries_per_table» = 512;
-      «table_sectors» = 4;
-      «one_is_zero» = true;
-      packed = true;
-      footer = true;
-    }
 
 -- four sectors: sector 0, one that nothing judges, the footer and the last one
 abbrev four : ℕ → List ℕ
@@ -48,7 +27,8 @@ four directory = stream (replicate 512 0x99) directory
 
 four-kept : FooterRules (four 0x1112131415161718)
 unfolding leAt leBytes over zeros
-four-kept = record { multiple = refl; long = omega arith; front = refl; back = refl; last = refl; directory = λ e. omega (arith, e) }
+four-kept =
+    record { multiple = refl; long = omega arith; front = refl; back = refl; last = refl; directory = λ e. omega (arith, e) }
 
 -- the footer's directory sector counts
 pub footer-told : judge (four 0x1112131415161718) ≡ Known (streamHeader 0x1112131415161718)

@@ -2,9 +2,11 @@
 -- by the definitions, so that a definition with another byte fails.
 use Prim.Native.Nat.{ℕ, _+_, _-_, _*_}
 use mathlib.Core.List.{List, [], _∷_, _++_}
+use mathlib.Core.Bool.{Bool, true, false}
 use lib.ListN.{replicate}
 use Rattle.base.specs.Numbers.{leBytes}
 use Rattle.base.specs.Bytes.{over, zeros}
+use Rattle.format.specs.declared.Header.{Header}
 
 -- parts one after the other
 abbrev pub joined : List (List ℕ) → List ℕ
@@ -91,11 +93,6 @@ doubled =
     ∷ zeros (2044 + 512)
     ∷ [])
 
--- COWD, one grain of one sector: the directory at sector 4, the table from 5 on, the grain at 37, and no sector left over
-abbrev pub cowdWhole : List ℕ
-cowdWhole =
-    joined (cowdSectors 1 1 4 1 ∷ leBytes 4 5 ∷ zeros 508 ∷ leBytes 4 37 ∷ zeros 16380 ∷ replicate 512 0xcc ∷ [])
-
 -- ---- streams
 -- sector 0 of a stream, or its footer: compressed, with markers, a descriptor of one sector
 abbrev pub streamSector : ℕ → List ℕ
@@ -127,3 +124,36 @@ packed first size next nextSize =
     ∷ zeros 512
     ∷ []))
     1
+
+-- ---- headers that images of KDMV tell
+abbrev headed : ℕ → ℕ → Bool → ℕ → ℕ → ℕ → ℕ → Header
+headed capacity grainSize stream descriptor descriptorSectors directory redundant =
+    record {
+      cowd = false;
+      capacity = capacity;
+      «grain_size» = grainSize;
+      «header_sectors» = 1;
+      descriptor = descriptor;
+      «descriptor_sectors» = descriptorSectors;
+      directory = directory;
+      «directory_sectors» = 1;
+      redundant = redundant;
+      «entries_per_table» = 512;
+      «table_sectors» = 4;
+      «one_is_zero» = true;
+      packed = stream;
+      footer = stream;
+    }
+
+-- by capacity and grain size
+abbrev pub sizedHeader : ℕ → ℕ → Header
+sizedHeader capacity grainSize = headed capacity grainSize false 0 0 1 0
+
+-- of `doubled` with other numbers: descriptor, its sectors, directory, redundant directory
+abbrev pub plainHeader : ℕ → ℕ → ℕ → ℕ → Header
+plainHeader descriptor descriptorSectors directory redundant =
+    headed 16 8 false descriptor descriptorSectors directory redundant
+
+-- of a stream whose directory stands at a sector
+abbrev pub streamHeader : ℕ → Header
+streamHeader directory = headed 16 8 true 9 1 directory 0
