@@ -33,9 +33,16 @@ abbrev keyed : List String → List ℕ
 keyed ls = under "# Disk DescriptorFile" ls
 
 -- ---- what is said of a text
-pub record Example : Type 0 where
-  pub gives : List ℕ
-  pub wants : List ℕ
+-- what the definitions give, and what document 01 has
+pub record Example (A : Type 0) : Type 0 where
+  pub gives : A
+  pub wants : A
+
+abbrev pub example : {A : Type 0} → A → A → Example A
+example gives wants = record { gives = gives; wants = wants }
+
+abbrev pub Hold : {A : Type 0} → List (Example A) → Type 0
+Hold {A} examples = map (λ (e : Example A). e .gives) examples ≡ map (λ (e : Example A). e .wants) examples
 
 -- the values of records
 abbrev values : List Extent → List ℕ
@@ -49,24 +56,20 @@ lent n =
     replicate n (record { first = 9; sectors = 9; access = 9; kind = 9; «name_at» = 9; «name_length» = 9; offset = 9 })
 
 -- the first call's whole answer, and the n lent records after it
-abbrev tells : ℕ → List ℕ → List ℕ → Example
+abbrev tells : ℕ → List ℕ → List ℕ → Example (List ℕ)
 tells n s wanted =
     let d = descriptorAnswer s (lent n) in
-    record {
-      gives =
-          d .number ∷ d .place ∷ d .extents ∷ d .version ∷ d .cid ∷ d .«parent_cid» ∷ d .«type_at» ∷ d .«type_length» ∷ values
-          (descriptorList s (lent n));
-      wants = wanted;
-    }
+    example
+    (d .number ∷ d .place ∷ d .extents ∷ d .version ∷ d .cid ∷ d .«parent_cid» ∷ d .«type_at» ∷ d .«type_length» ∷ values
+    (descriptorList s (lent n)))
+    wanted
 
 -- the first call's number and place
-abbrev refuses : ℕ → ℕ → List ℕ → Example
-refuses number place s =
-    let d = descriptorAnswer s (lent 32) in
-    record { gives = d .number ∷ d .place ∷ []; wants = number ∷ place ∷ [] }
+abbrev refuses : ℕ → ℕ → List ℕ → Example (List ℕ)
+refuses number place s = let d = descriptorAnswer s (lent 32) in example (d .number ∷ d .place ∷ []) (number ∷ place ∷ [])
 
 -- no refusal
-abbrev accepts : List ℕ → Example
+abbrev accepts : List ℕ → Example (List ℕ)
 accepts s = refuses 0 0 s
 
 -- a list of two records; the second one's first sector and sectors add up to more than 2^64
@@ -77,10 +80,8 @@ listed =
     ∷ []
 
 -- the second call's number, place and record on that list
-abbrev finds : ℕ → List ℕ → Example
-finds sector wanted =
-    let f = findAnswer listed sector in
-    record { gives = f .number ∷ f .place ∷ f .extent ∷ []; wants = wanted }
+abbrev finds : ℕ → List ℕ → Example (List ℕ)
+finds sector wanted = let f = findAnswer listed sector in example (f .number ∷ f .place ∷ f .extent ∷ []) wanted
 
 -- ---- the examples
 -- two extents
@@ -88,7 +89,7 @@ abbrev two : List String
 two = "RW 4 FLAT \"a b\" 63" ∷ "rdonly 6 VMFS \"c\"" ∷ []
 
 -- texts in pairs, one on each side of an edge
-abbrev pub examples : List Example
+abbrev examples : List (Example (List ℕ))
 examples =
     -- a whole text: names' places and lengths; VMFS without an offset has 0; the record past the last keeps what it held
     tells 3 (keyed two)
@@ -101,6 +102,10 @@ examples =
     -- the first line in another case; another first line
     ∷ accepts (under "\t# disk DESCRIPTORFILE\r" ("RW 4 ZERO" ∷ []))
     ∷ refuses 30 0 (under "# Disk Descriptor File" ("RW 4 ZERO" ∷ []))
+    -- empty lines before it; none but empty lines; no text
+    ∷ accepts (0x0a ∷ 0x20 ∷ 0x0a ∷ keyed ("RW 4 ZERO" ∷ []))
+    ∷ refuses 30 0 (0x0a ∷ 0x20 ∷ 0x0a ∷ [])
+    ∷ refuses 30 0 []
     -- zero bytes after a zero byte; text after one
     ∷ accepts (keyed ("RW 4 ZERO" ∷ []) ++ 0 ∷ 0 ∷ [])
     ∷ refuses 31 0 (keyed ("RW 4 ZERO" ∷ []) ++ 0 ∷ 0x0a ∷ [])
@@ -110,10 +115,21 @@ examples =
     -- a key line that starts with an access; an extent line
     ∷ accepts (keyed ("RW=1" ∷ "RW 4 ZERO" ∷ []))
     ∷ refuses 34 6 (keyed ("RW = 1" ∷ "RW 4 ZERO" ∷ []))
-    -- a required key twice, malformed, missing
+    -- a required key twice, whichever it is; malformed
+    ∷ refuses 33 6 (keyed ("version = 1" ∷ []))
     ∷ refuses 33 7 (keyed ("RW 4 ZERO" ∷ "cid = 2" ∷ []))
-    ∷ refuses 33 2 (text ("# Disk DescriptorFile" ∷ "version=4" ∷ []))
-    ∷ refuses 33 0 (text ("# Disk DescriptorFile" ∷ "version=3" ∷ "RW 4 ZERO" ∷ []))
+    ∷ refuses 33 6 (keyed ("parentCID=0" ∷ []))
+    ∷ refuses 33 6 (keyed ("createType=\"\"" ∷ []))
+    ∷ tells 1 (text ("# Disk DescriptorFile" ∷ "version=4" ∷ [])) (33 ∷ 2 ∷ replicate 6 0 ++ replicate 7 9)
+    -- one of them missing
+    ∷ refuses 33 0 (text ("# Disk DescriptorFile" ∷ "CID=1" ∷ "parentCID=1" ∷ "createType=\"\"" ∷ "RW 4 ZERO" ∷ []))
+    ∷ refuses 33 0 (text ("# Disk DescriptorFile" ∷ "version=3" ∷ "parentCID=1" ∷ "createType=\"\"" ∷ "RW 4 ZERO" ∷ []))
+    ∷ refuses 33 0 (text ("# Disk DescriptorFile" ∷ "version=3" ∷ "CID=1" ∷ "createType=\"\"" ∷ "RW 4 ZERO" ∷ []))
+    ∷ refuses 33 0 (text ("# Disk DescriptorFile" ∷ "version=3" ∷ "CID=1" ∷ "parentCID=1" ∷ "RW 4 ZERO" ∷ []))
+    -- no extent, 32 and 33 of them
+    ∷ refuses 35 0 (keyed [])
+    ∷ accepts (keyed (replicate 32 "RW 1 ZERO"))
+    ∷ refuses 35 0 (keyed (replicate 33 "RW 1 ZERO"))
     -- ZERO with a name; FLAT with no blank before its offset; 0d separates nothing
     ∷ refuses 34 6 (keyed ("RW 4 ZERO \"a\"" ∷ []))
     ∷ refuses 34 6 (keyed ("RW 4 FLAT \"a\"0" ∷ []))
@@ -122,13 +138,16 @@ examples =
     ∷ accepts (keyed ("RW 2147483647 ZERO" ∷ "RW 1 ZERO" ∷ []))
     ∷ refuses 35 0 (keyed ("RW 2147483648 ZERO" ∷ "RW 1 ZERO" ∷ []))
     ∷ refuses 34 6 (keyed ("RW 2147483649 ZERO" ∷ []))
-    -- the second call: a record's last sector, the one after it, and one that a sum of 64 bits would miss
+    -- the second call: a record's first and last sector, the one after it, and two that a sum of 64 bits would miss
+    ∷ finds 0 (0 ∷ 0 ∷ 0 ∷ [])
     ∷ finds 3 (0 ∷ 0 ∷ 0 ∷ [])
     ∷ finds 4 (20 ∷ 0 ∷ 0 ∷ [])
     ∷ finds 0xffffffffffffffff (0 ∷ 0 ∷ 1 ∷ [])
+    ∷ finds 0x10000000000000000 (0 ∷ 0 ∷ 1 ∷ [])
+    ∷ finds 0x10000000000000001 (20 ∷ 0 ∷ 0 ∷ [])
     ∷ []
 
 -- the definitions say of each what is wanted
-pub examples-hold : map (λ (e : Example). e .gives) examples ≡ map (λ (e : Example). e .wants) examples
+pub examples-hold : Hold examples
 unfolding pick sameWord countBefore kept digitValue numeralFrom numeral toQuoteAt quotedLength linesFrom accessOf typeOf blanksThenDecimalAt blanksThenDecimal offsetOf extent withName fromName withType withSectors keyOf versionIs cidIs createTypeIs valueOf withKey splitAt lineWith refused skipped opened added noted once judgedLine step judgedEnd ended judged judgedText readText accepted handed answered foundFrom
 examples-hold = refl

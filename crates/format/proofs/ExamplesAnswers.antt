@@ -1,0 +1,86 @@
+-- Answers in document 01's numbers: each refusal's number and place, and each answer's values.
+use Prim.Native.Nat.{ℕ}
+use mathlib.Core.List.{List, [], _∷_, map}
+use mathlib.Core.Path.{refl}
+use Rattle.format.specs.Answers.{number, place, headerNumbers, verdict, located, chained, written}
+use Rattle.format.specs.declared.Refusal.{Refusal}
+use Rattle.format.specs.declared.Refusal.the-variants.{TooShort, Magic, Version, Newline, Flags, Sizes, Footer, Misplaced}
+use Rattle.format.specs.declared.Refusal.the-variants.{GrainPast, Marker, CopiesDiffer, SharedSector, SectorPast}
+use Rattle.format.specs.declared.Refusal.the-variants.{TooLittleRoom, LayersDiffer, NotCollapsible, LayerLengths}
+use Rattle.format.specs.declared.Source.the-variants.{Absent, Zero, Stored, Packed}
+use Rattle.format.specs.declared.HeaderAnswer.{HeaderAnswer}
+use Rattle.format.specs.declared.HeaderAnswer.the-variants.{Known, Refused as unknown}
+use Rattle.format.specs.declared.CheckAnswer.{CheckAnswer}
+use Rattle.format.specs.declared.CheckAnswer.the-variants.{Accepted, Refused as unaccepted}
+use Rattle.format.specs.declared.LookupAnswer.the-variants.{Found, Refused as notFound}
+use Rattle.format.specs.declared.ChainAnswer.the-variants.{Found as foundIn, Refused as notFoundIn}
+use Rattle.format.specs.declared.CollapseAnswer.{CollapseAnswer}
+use Rattle.format.specs.declared.CollapseAnswer.the-variants.{Written as writtenTo, Refused as notWritten}
+use Rattle.format.specs.declared.Located.{Located}
+use Rattle.format.proofs.Examples.{Example, example, Hold}
+use Rattle.format.proofs.Images.{plainHeader}
+
+-- ---- an answer's values in the order of the C face
+abbrev headed : HeaderAnswer → List ℕ
+headed a =
+    let v = headerNumbers a in
+    v .number ∷ v .place ∷ v .capacity ∷ v .«grain_size» ∷ v .descriptor ∷ v .«descriptor_sectors» ∷ []
+
+abbrev checked : CheckAnswer → List ℕ
+checked a = let v = verdict a in v .number ∷ v .place ∷ v .capacity ∷ v .«grain_size» ∷ []
+
+abbrev served : Located → List ℕ
+served v = v .number ∷ v .layer ∷ v .place ∷ v .kind ∷ v .sector ∷ v .size ∷ v .offset ∷ []
+
+abbrev wrote : CollapseAnswer → List ℕ
+wrote a = let v = written a in v .number ∷ v .place ∷ v .length ∷ []
+
+-- ---- refusals
+abbrev refusals : List Refusal
+refusals =
+    TooShort
+    ∷ Magic
+    ∷ Version
+    ∷ Newline
+    ∷ Flags
+    ∷ Sizes
+    ∷ Footer
+    ∷ Misplaced
+    ∷ GrainPast 31
+    ∷ Marker 32
+    ∷ CopiesDiffer
+    ∷ SharedSector
+    ∷ SectorPast
+    ∷ TooLittleRoom
+    ∷ LayersDiffer
+    ∷ NotCollapsible
+    ∷ LayerLengths
+    ∷ []
+
+abbrev answers : List (Example (List ℕ))
+answers =
+    example (map number refusals) (1 ∷ 2 ∷ 3 ∷ 4 ∷ 5 ∷ 6 ∷ 7 ∷ 8 ∷ 9 ∷ 10 ∷ 11 ∷ 12 ∷ 20 ∷ 21 ∷ 22 ∷ 23 ∷ 24 ∷ [])
+    ∷ example (map place refusals) (0 ∷ 0 ∷ 0 ∷ 0 ∷ 0 ∷ 0 ∷ 0 ∷ 0 ∷ 31 ∷ 32 ∷ 0 ∷ 0 ∷ 0 ∷ 0 ∷ 0 ∷ 0 ∷ 0 ∷ [])
+    -- a header: capacity, grain size, the descriptor's sector and sectors
+    ∷ example (headed (Known (plainHeader 19 7 1 0))) (0 ∷ 0 ∷ 16 ∷ 8 ∷ 19 ∷ 7 ∷ [])
+    ∷ example (headed (unknown Footer)) (7 ∷ 0 ∷ 0 ∷ 0 ∷ 0 ∷ 0 ∷ [])
+    -- the check: capacity, grain size
+    ∷ example (checked (Accepted 200 128)) (0 ∷ 0 ∷ 200 ∷ 128 ∷ [])
+    ∷ example (checked (unaccepted (GrainPast 3))) (9 ∷ 3 ∷ 0 ∷ 0 ∷ [])
+    -- a lookup: layer 0, place, kind, sector, size, offset
+    ∷ example (served (located (Found Absent))) (0 ∷ 0 ∷ 0 ∷ 0 ∷ 0 ∷ 0 ∷ 0 ∷ [])
+    ∷ example (served (located (Found Zero))) (0 ∷ 0 ∷ 0 ∷ 1 ∷ 0 ∷ 0 ∷ 0 ∷ [])
+    ∷ example (served (located (Found (Stored 130)))) (0 ∷ 0 ∷ 0 ∷ 2 ∷ 130 ∷ 0 ∷ 0 ∷ [])
+    ∷ example (served (located (Found (Packed 6 500 7)))) (0 ∷ 0 ∷ 0 ∷ 3 ∷ 6 ∷ 500 ∷ 7 ∷ [])
+    ∷ example (served (located (notFound (Marker 5)))) (10 ∷ 0 ∷ 5 ∷ 0 ∷ 0 ∷ 0 ∷ 0 ∷ [])
+    -- a chain: the same with its layer
+    ∷ example (served (chained (foundIn (record { layer = 3; source = Stored 130 })))) (0 ∷ 3 ∷ 0 ∷ 2 ∷ 130 ∷ 0 ∷ 0 ∷ [])
+    ∷ example (served (chained (notFoundIn 3 (Marker 5)))) (10 ∷ 3 ∷ 5 ∷ 0 ∷ 0 ∷ 0 ∷ 0 ∷ [])
+    -- collapse and normal form: the result's length
+    ∷ example (wrote (writtenTo 8192)) (0 ∷ 0 ∷ 8192 ∷ [])
+    ∷ example (wrote (notWritten TooLittleRoom)) (21 ∷ 0 ∷ 0 ∷ [])
+    ∷ example (wrote (notWritten (Marker 5))) (10 ∷ 5 ∷ 0 ∷ [])
+    ∷ []
+
+pub answers-hold : Hold answers
+answers-hold = refl
