@@ -17,7 +17,7 @@ use Rattle.descriptor.specs.Extents.{fromName, withType, withSectors}
 use Rattle.descriptor.specs.Keys.{keyOf, versionIs, cidIs, createTypeIs, valueOf, withKey, splitAt}
 use Rattle.descriptor.specs.Line.{lineWith, line}
 use Rattle.descriptor.specs.Descriptor.{start, refused, skipped, judgedLine, step, ended, judged, judgedText, readText}
-use Rattle.descriptor.proofs.Examples.{Example, example, Hold}
+use Rattle.descriptor.proofs.TextExamples.{Example, example, Hold}
 
 -- ---- numbers
 abbrev decimals : List String → List ℕ

@@ -1,2 +1,2 @@
-pub mod Examples
+pub mod TextExamples
 pub mod ExamplesParts

@@ -12,7 +12,6 @@ pub mod Entries
 pub mod Areas
 pub mod Answers
 pub mod Mistakes
-pub mod Unused
 pub mod Picked
 pub mod Inside
 pub mod LowestGrain

@@ -1,4 +1,4 @@
--- Mistakes that document 01 shuts out, as laws. That unused entries refuse no image is in `Unused`.
+-- Mistakes that document 01 shuts out, as laws. That unused entries refuse no image is a theorem of `laws` (`unused-free`).
 use Prim.Native.Nat.{ℕ, _+_, _<_}
 use mathlib.Core.Path.{_≡_, refl}
 use mathlib.Core.List.{List, [], _∷_}

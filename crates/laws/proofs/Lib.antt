@@ -1,4 +1,4 @@
-pub mod Examples
+pub mod MarkedExamples
 pub mod AcceptedCopies
 pub mod AcceptedMarkers
 pub mod AcceptedLayout
@@ -31,7 +31,8 @@ pub mod ExampleLayersCollapsed
 pub mod ExtentsLaid
 pub mod ExtentsLines
 pub mod ExtentsRead
-pub mod Extents
+pub mod ExtentsHeld
+pub mod Unused
 pub mod NeverUsed
 pub mod NeverUsedCheck
 pub mod NeverUsedChain

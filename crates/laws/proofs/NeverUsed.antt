@@ -153,14 +153,14 @@ module _ (s t : List ℕ) (both : SameSectors s t) where
   entry-same : (u k sectors : ℕ) → 4 * k + 4 ≤ 512 * sectors → u + sectors ≤ fileSectors s → entryAt s u k ≡ entryAt t u k
   entry-same u k sectors l i = le-same s t both (512 * u + 4 * k) 4 (omega arith)
 
-  module _ (h : Header) (room : Sound h) (u : ℕ) where
+  module _ (h : Header) (sound : Sound h) (u : ℕ) where
     pub directory-same : u + h .«directory_sectors» ≤ fileSectors s → (d : ℕ) → d < directoryEntriesOf h → entryAt s u d
         ≡ entryAt t u d
-    directory-same i d l = entry-same u d (h .«directory_sectors») (omega (arith, room .directory)) i
+    directory-same i d l = entry-same u d (h .«directory_sectors») (omega (arith, sound .directory)) i
 
     pub table-same : u + h .«table_sectors» ≤ fileSectors s → (k : ℕ) → k < h .«entries_per_table» → entryAt s u k
         ≡ entryAt t u k
-    table-same i k l = entry-same u k (h .«table_sectors») (omega (arith, room .table)) i
+    table-same i k l = entry-same u k (h .«table_sectors») (omega (arith, sound .table)) i
 
   -- ---- a grain: its marker is read where its sector lies in the file; else it is refused whatever the marker says
   pub size-same : (e : ℕ) → e < fileSectors s → markerSize s e ≡ markerSize t e
@@ -176,17 +176,17 @@ module _ (s t : List ℕ) (both : SameSectors s t) where
   source-same false size o e l h = part-same s t both (512 * (e + o)) 512 (omega arith)
 
   -- ---- the lookup, step by step
-  module _ (h : Header) (room : Sound h) (g o : ℕ) (low : o < h .«grain_size») where
+  module _ (h : Header) (sound : Sound h) (g o : ℕ) (low : o < h .«grain_size») where
     grain-served : (e : ℕ) → SameAnswer s t (lookupGrain s h g o e) (lookupGrain t h g o e)
     unfolding lookupGrain markerBroken grainSource
     grain-served e =
-        let some = room .sizes .low in
+        let some = sound .sizes .low in
         rw (← both .long, ← past-same (h .packed) (h .«grain_size») e some s t (fileSectors s) (λ l p. size-same e l))
         (pick-both (SameAnswer s t) _ _ _ _ _ (λ p. refused)
         (λ n.
         let sectors = grainSectors s (h .packed) (h .«grain_size») e in
         let i : e + sectors ≤ fileSectors s = ltb-false (fileSectors s) (e + sectors) n in
-        let l : e < fileSectors s = omega (arith, some-sectors s (h .packed) (h .«grain_size») e (room .sizes .low)) in
+        let l : e < fileSectors s = omega (arith, some-sectors s (h .packed) (h .«grain_size») e (sound .sizes .low)) in
         rw (← size-same e l, ← first-same e l)
         (pick-both (SameAnswer s t) _ _ _ _ _ (λ p. refused)
         (λ m. found (source-same (h .packed) (h .«grain_size») o e low i)))))
@@ -206,9 +206,9 @@ module _ (s t : List ℕ) (both : SameSectors s t) where
         (pick-both (SameAnswer s t) _ _ _ _ _ (λ p. refused)
         (λ n.
         let i : u + h .«table_sectors» ≤ fileSectors s = ltb-false (fileSectors s) (u + h .«table_sectors») n in
-        rw (← table-same h room u i (g % h .«entries_per_table») (mod-lt g (room .some))) (entry-served _)))
+        rw (← table-same h sound u i (g % h .«entries_per_table») (mod-lt g (sound .some))) (entry-served _)))
 
-  module _ (h : Header) (room : Sound h) (x : ℕ) where
+  module _ (h : Header) (sound : Sound h) (x : ℕ) where
     -- from the directory entry of x on
     abbrev onward : List ℕ → LookupAnswer
     onward u =
@@ -219,10 +219,10 @@ module _ (s t : List ℕ) (both : SameSectors s t) where
         → SameAnswer s t (onward s) (onward t)
     onward-served low i =
         let g = x / h .«grain_size» in
-        let used : g < grainsOf h = grain-of (h .capacity) (h .«grain_size») (room .sizes .low) x low in
-        let d = entry-used (h .capacity) (h .«grain_size») (room .sizes .low) (h .«entries_per_table») (room .some) g used in
-        rw (← directory-same h room (h .directory) i (g / h .«entries_per_table») d)
-        (table-served h room g _ (mod-lt x (room .sizes .low)) _)
+        let used : g < grainsOf h = grain-of (h .capacity) (h .«grain_size») (sound .sizes .low) x low in
+        let d = entry-used (h .capacity) (h .«grain_size») (sound .sizes .low) (h .«entries_per_table») (sound .some) g used in
+        rw (← directory-same h sound (h .directory) i (g / h .«entries_per_table») d)
+        (table-served h sound g _ (mod-lt x (sound .sizes .low)) _)
 
     in-served : SameAnswer s t (lookupIn s h x) (lookupIn t h x)
     unfolding lookupIn

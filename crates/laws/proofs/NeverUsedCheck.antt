@@ -10,16 +10,17 @@ use Rattle.format.specs.declared.HeaderAnswer.{HeaderAnswer}
 use Rattle.format.specs.declared.HeaderAnswer.the-variants.{Known, Refused}
 use Rattle.format.specs.Judged.{Sound}
 use Rattle.format.proofs.HeaderSound.{sound-of}
-use Rattle.format.proofs.Unused.{SameTables, SameInUse, unused-free}
+use Rattle.laws.specs.Unused.{SameTables, SameInUse}
+use Rattle.laws.proofs.Unused.{unused-free}
 use Rattle.laws.specs.NeverUsed.{SameSectors}
 use Rattle.laws.proofs.NeverUsed.{never-used-header, directory-same, table-same, size-same, first-same}
 
 module _ (s t : List ℕ) (both : SameSectors s t) where
-  module _ (h : Header) (room : Sound h) where
+  module _ (h : Header) (sound : Sound h) where
     tables-used : (directory : ℕ) → SameTables s t h directory
     tables-used directory = record {
-      entries = directory-same s t both h room directory;
-      tables = λ d u l e i k b. table-same s t both h room u i k (omega arith);
+      entries = directory-same s t both h sound directory;
+      tables = λ d u l e i k b. table-same s t both h sound u i k (omega arith);
     }
 
     pub in-use : SameInUse s t h
@@ -33,7 +34,7 @@ module _ (s t : List ℕ) (both : SameSectors s t) where
   from-same : (a : HeaderAnswer) → judge s ≡ a → checkFrom s a ≡ checkFrom t a
   unfolding checkFrom
   from-same (Refused r) e = refl
-  from-same (Known h) e = let room = sound-of s h e in unused-free s t h (room .sizes .low) (room .some) (in-use h room)
+  from-same (Known h) e = let sound = sound-of s h e in unused-free s t h (sound .sizes .low) (sound .some) (in-use h sound)
 
   pub never-used-check : check s ≡ check t
   never-used-check = from-same (judge s) refl ∙ ap (checkFrom t) (never-used-header s t both)

@@ -29,7 +29,7 @@ use Rattle.format.proofs.LowestGrain.{none-lowest}
 use Rattle.format.proofs.Passed.{layout-passed}
 use Rattle.format.proofs.LayersAt.{alike}
 use Rattle.format.proofs.Places.{places-kept}
-use Rattle.format.proofs.Unused.{entry-same}
+use Rattle.laws.proofs.Unused.{entry-same}
 use Rattle.laws.specs.Layers.{Layer, SameGrains}
 use Rattle.laws.specs.NeverUsed.{SameSectors}
 use Rattle.laws.proofs.ServedSectors.{accepted-good}
@@ -66,11 +66,11 @@ module _ (s t : List ℕ) (both : SameSectors s t) where
     map-same g l =
         let h = headerOf s in
         let good = accepted-good s (layer-accepted p) in
-        let room = good .room in
+        let sound = good .sound in
         let found = layout-passed s h c size (rw (good .known) at (p .accepted)) in
         let placed = places-kept s h (found .places) in
         let used : g < grainsOf h = rw (capacity-is p, size-is p) l in
-        let same = entry-same s t h (room .sizes .low) (room .some) (in-use s t both h room) placed g used in
+        let same = entry-same s t h (sound .sizes .low) (sound .some) (in-use s t both h sound) placed g used in
         let inside = none-lowest (grainPast s h) (grainsOf h) (found .grains) g used in
         rw (← header-same s t both, ← same)
         (grain-same (h .capacity) (h .«grain_size») g (grainEntry s h g) (rw (unpacked p) at inside))

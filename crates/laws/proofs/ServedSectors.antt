@@ -22,11 +22,11 @@ use Rattle.laws.proofs.ServedBytes.{sourceLength, source-long}
 -- ---- what an accepted image has, of either kind
 pub record Good (s : List ℕ) (h : Header) : Type 0 where
   pub known : judge s ≡ Known h
-  pub room : Sound h
+  pub sound : Sound h
   pub areas : AreaRules s h
 
 good-of : (s : List ℕ) (h : Header) → judge s ≡ Known h → AreaRules s h → Good s h
-good-of s h e a = record { known = e; room = sound-of s h e; areas = a }
+good-of s h e a = record { known = e; sound = sound-of s h e; areas = a }
 
 pub accepted-good : (s : List ℕ) → Accepted s → Good s (headerOf s)
 accepted-good s (kdmv r a) = rw (kdmv-is s r) (good-of s _ (kdmv-known s r) a)
@@ -43,7 +43,7 @@ module _ (s : List ℕ) (a : Accepted s) (x : ℕ) (low : x < headerOf s .capaci
   unfolding lookupFrom
   served =
       let g = accepted-good s a in
-      rw (g .known) (found-in s (headerOf s) (g .room .sizes .low) (g .room .some) (g .areas) x low)
+      rw (g .known) (found-in s (headerOf s) (g .sound .sizes .low) (g .sound .some) (g .areas) x low)
 
   -- the grain reader returns the bytes of that answer
   pub served-bytes : read s x ≡ sourceBytes s (sourceOf s (headerOf s) x)
@@ -54,7 +54,7 @@ module _ (s : List ℕ) (a : Accepted s) (x : ℕ) (low : x < headerOf s .capaci
   pub served-long : length (read s x) ≡ sourceLength (sourceOf s (headerOf s) x)
   served-long =
       let g = accepted-good s a in
-      ap length served-bytes ∙ source-long s (headerOf s) (g .room .sizes .low) (g .room .some) (g .areas) x low
+      ap length served-bytes ∙ source-long s (headerOf s) (g .sound .sizes .low) (g .sound .some) (g .areas) x low
 
   -- 512 for stored
   pub stored-long : (sector : ℕ) → sourceOf s (headerOf s) x ≡ Stored sector → length (read s x) ≡ 512

@@ -2,3 +2,4 @@ pub mod Layers
 pub mod Served
 pub mod Runs
 pub mod NeverUsed
+pub mod Unused

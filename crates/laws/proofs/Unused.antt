@@ -7,49 +7,31 @@ use mathlib.Core.Bool.{Bool, true, false, _||_}
 use native.Mathlib.Omega.{arith}
 use native.Mathlib.Nat.{div-add-mod', mod-lt}
 use lib.Dec.{eqb}
-use lib.ListN.{length}
 use borrow.Author.Tests.{eqb-false}
 use Rattle.base.specs.Pick.{pick}
 use Rattle.base.proofs.Steps.{pick-both, and-both}
 use Rattle.base.proofs.Rows.{rows-same}
 use Rattle.format.specs.Geometry.{fileSectors}
 use Rattle.format.specs.Header.{grainsOf, directoryEntriesOf}
-use Rattle.format.specs.Entries.{entryAt, meaning, inTable, meaningAt, entryOfGrain, grainEntry, entriesInUse}
-use Rattle.format.specs.Entries.{markerFirst, markerSize, grainSectors, markerBroken}
+use Rattle.format.specs.Entries.{meaning, inTable, meaningAt, entryOfGrain, grainEntry, entriesInUse}
+use Rattle.format.specs.Entries.{grainSectors, markerBroken}
 use Rattle.format.specs.Areas.{Area, named, tableAreas, primaryTables, redundantTables, grainArea, areas, runsPast}
 use Rattle.format.specs.Check.{directoryMisplaced, redundantDirectoryMisplaced, entryDiffers, misplaced, grainPast}
 use Rattle.format.specs.Check.{markerBrokenAt, lowestPast, lowestBadMarker, copyDiffers, copiesDiffer, unlessGrain}
 use Rattle.format.specs.Check.{checkApart, checkCopies, checkGrains, checkLayout}
 use Rattle.format.specs.declared.Header.{Header}
 use Rattle.format.specs.declared.Entry.{Entry}
 use Rattle.format.specs.declared.Entry.the-variants.{Absent, Zero, Sector}
 use Rattle.format.specs.declared.Lowest.{Lowest}
 use Rattle.format.specs.declared.Lowest.the-variants.{None, Grain}
 use Rattle.format.specs.declared.Refusal.{Refusal}
 use Rattle.format.specs.declared.CheckAnswer.{CheckAnswer}
 use Rattle.format.proofs.Geometry.{entry-used}
 use Rattle.format.proofs.Entries.{some-same, sectors-same, some-sectors, past-same}
 use Rattle.format.proofs.Inside.{table-in, named-in}
 use Rattle.format.proofs.LowestGrain.{none-lowest, lowest-same}
 use Rattle.format.proofs.Places.{Places, places-kept, primary-in, directory-in, redundant-in, redundant-tables}
-
--- the first n entries of a directory or table
-abbrev pub SameEntries : List ℕ → List ℕ → ℕ → ℕ → Type 0
-SameEntries s t u n = (k : ℕ) → k < n → entryAt s u k ≡ entryAt t u k
-
--- a directory's entries in use, and those of its tables, where they lie in the file
-pub record SameTables (s t : List ℕ) (h : Header) (directory : ℕ) : Type 0 where
-  pub entries : directory + h .«directory_sectors» ≤ fileSectors s → SameEntries s t directory (directoryEntriesOf h)
-  pub tables : (d u : ℕ) → d < directoryEntriesOf h → meaningAt s (h .«one_is_zero») directory d ≡ Sector u
-      → u + h .«table_sectors» ≤ fileSectors s → SameEntries s t u (entriesInUse h d)
-
--- all that is read of an image of a header: both directories, if there are two, and the markers of packed grains
-pub record SameInUse (s t : List ℕ) (h : Header) : Type 0 where
-  pub long : length s ≡ length t
-  pub primary : SameTables s t h (h .directory)
-  pub copies : (h .redundant ≡ 0 → ⊥) → SameTables s t h (h .redundant)
-  pub markers : h .packed ≡ true → (g e : ℕ) → g < grainsOf h → grainEntry s h g ≡ Sector e → e < fileSectors s
-      → (markerSize s e ≡ markerSize t e) × (markerFirst s e ≡ markerFirst t e)
+use Rattle.laws.specs.Unused.{SameEntries, SameTables, SameInUse}
 
 -- ---- what is said of an entry differs only where it names a sector
 by-entry : {A : Type 0} (p q : Entry → A) → p Absent ≡ q Absent → p Zero ≡ q Zero → (d : Entry)
