@@ -3,7 +3,7 @@
 names no test: tests/promises.py.
 
 A cell cites `FILE` `NAME` `NAME` .., and a name counts where the file defines it. A file is below crates/, or one of the
-tests: tests/checks/NAME, a stored input; tests/NAME.py with labels of its cases; a file of rust/ with tests of its own; a
+tests: tests/checks/NAME or tests/cases/NAME, a stored input; tests/NAME.py with labels of its cases; a file of rust/ with tests of its own; a
 script of .ci/ with its steps; the stdout of a program crate with what a line of it begins with."""
 import importlib
 import re
@@ -12,8 +12,8 @@ from functools import lru_cache
 from sources import defined, root, rust_tests
 
 # What the last cell of a row may name: a test, an example that is proved, or a wrong program that is refused.
-TESTS = re.compile(r"tests/(checks/[\w-]+|\w+\.py)|rust/[\w/-]+\.rs|\.ci/\w+|\w+/stdout|"
-                   r"\w+/proofs/Examples\w*\.antt|\w+/must-fail/\w+\.edit")
+TESTS = re.compile(r"tests/(checks/[\w-]+|cases/[\w-]+|\w+\.py)|rust/[\w/-]+\.rs|\.ci/\w+|\w+/stdout|"
+                   r"\w+/proofs/\w*Example\w*\.antt|\w+/must-fail/\w+\.edit")
 
 
 def place(file):
@@ -43,7 +43,8 @@ def missing(text):
     for cited in re.findall(r"`([^`]+)`", text):
         if re.fullmatch(r"[\w.-]+(/[\w.-]+)+", cited):
             file = cited
-            if not place(file).is_file() or file.startswith("tests/checks/") and not place(file + ".line").is_file():
+            stored = {"tests/checks": ".line", "tests/cases": ".lines"}.get("/".join(file.split("/")[:2]))
+            if not place(file).is_file() or stored and not place(file + stored).is_file():
                 yield f"no file {file}"
                 file = None
         elif file and cited not in names(file):
@@ -58,7 +59,7 @@ def untested(cell):
     for file, name in files:
         if not TESTS.fullmatch(file):
             yield f"{file} is no test"
-        elif not name and not re.match(r"tests/checks/|\w+/must-fail/", file):
+        elif not name and not re.match(r"tests/checks/|tests/cases/|\w+/must-fail/", file):
             yield f"no test of {file} is named"
     if not files:
         yield "no test is named"
