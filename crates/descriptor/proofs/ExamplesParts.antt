@@ -3,20 +3,24 @@ use Prim.Native.Nat.{ℕ, _<_}
 use Prim.Native.String.{String}
 use mathlib.Core.Path.{_≡_, refl}
 use mathlib.Core.List.{List, [], _∷_, map}
+use mathlib.Core.Bool.{true, false}
 use lib.ListN.{length, replicate}
 use borrow.Author.Tests.{lt-ltb}
 use Rattle.base.specs.Pick.{pick}
 use Rattle.base.specs.Strings.{sameWord, ascii}
+use Rattle.descriptor.specs.declared.Extent.{Extent}
+use Rattle.descriptor.specs.declared.State.{State}
 use Rattle.descriptor.specs.declared.Line.{Line}
 use Rattle.descriptor.specs.declared.Line.the-variants.{Skip, Fault, Holds, Key}
-use Rattle.descriptor.specs.Words.{countBefore, kept, trim, noValue, digitValue, numeralFrom, numeral, decimal, hex}
-use Rattle.descriptor.specs.Words.{toQuoteAt, quotedLength}
+use Rattle.descriptor.specs.Words.{countBefore, kept, trimEnd, trim, noValue, digitValue, numeralFrom, numeral, decimal}
+use Rattle.descriptor.specs.Words.{hex, toQuoteAt, quotedLength}
 use Rattle.descriptor.specs.Text.{Span, textOf, tailOf, linesFrom, lines}
 use Rattle.descriptor.specs.Extents.{accessOf, typeOf, blanksThenDecimalAt, blanksThenDecimal, offsetOf, extent, withName}
 use Rattle.descriptor.specs.Extents.{fromName, withType, withSectors}
 use Rattle.descriptor.specs.Keys.{keyOf, versionIs, cidIs, createTypeIs, valueOf, withKey, splitAt}
 use Rattle.descriptor.specs.Line.{lineWith, line}
-use Rattle.descriptor.specs.Descriptor.{start, refused, skipped, judgedLine, step, ended, judged, judgedText, readText}
+use Rattle.descriptor.specs.Descriptor.{state, start, refused, skipped, opened, added, noted, judgedLine, step, ended}
+use Rattle.descriptor.specs.Descriptor.{judged, judgedText, readText}
 use Rattle.descriptor.proofs.TextExamples.{Example, example, Hold}
 
 -- ---- numbers
@@ -52,6 +56,7 @@ cuts =
     ∷ example (tailOf (7 ∷ 8 ∷ [])) []
     -- spaces, tabs and 0d are trimmed at both ends, and no other byte
     ∷ example (trim (ascii " \t\ra \t\rb\r\t ")) (ascii "a \t\rb")
+    ∷ example (trimEnd (ascii " \t\r")) []
     ∷ example (trim (0x0b ∷ 0x0c ∷ 0x0e ∷ 0x1f ∷ 0x21 ∷ 0x08 ∷ [])) (0x0b ∷ 0x0c ∷ 0x0e ∷ 0x1f ∷ 0x21 ∷ 0x08 ∷ [])
     ∷ []
 
@@ -119,6 +124,28 @@ lineExamples =
 pub lines-said : Hold lineExamples
 unfolding pick sameWord countBefore kept digitValue numeralFrom numeral toQuoteAt quotedLength accessOf typeOf blanksThenDecimalAt blanksThenDecimal offsetOf extent withName fromName withType withSectors keyOf versionIs cidIs createTypeIs valueOf withKey splitAt lineWith
 lines-said = refl
+
+-- ---- what is known before all lines, and after one: no refusal is number 0 and place 0
+abbrev none : Extent
+none = record { first = 0; sectors = 0; access = 0; kind = 0; «name_at» = 0; «name_length» = 0; offset = 0 }
+
+abbrev four : Extent
+four = record { first = 0; sectors = 4; access = 1; kind = 5; «name_at» = 0; «name_length» = 0; offset = 0 }
+
+abbrev states : List (Example State)
+states =
+    example start (state 0 0 0 false 0 0 (replicate 32 none) (replicate 5 noValue) (replicate 5 0))
+    ∷ example (skipped start) (state 0 0 1 false 0 0 (replicate 32 none) (replicate 5 noValue) (replicate 5 0))
+    ∷ example (opened start) (state 0 0 1 true 0 0 (replicate 32 none) (replicate 5 noValue) (replicate 5 0))
+    ∷ example (added four start) (state 0 0 1 false 1 4 (four ∷ replicate 31 none) (replicate 5 noValue) (replicate 5 0))
+    ∷ example (noted 2 7 9 start)
+    (state 0 0 1 false 0 0 (replicate 32 none) (noValue ∷ noValue ∷ 7 ∷ noValue ∷ noValue ∷ []) (0 ∷ 0 ∷ 9 ∷ 0 ∷ 0 ∷ []))
+    ∷ example (refused 32 1 start) (state 32 1 0 false 0 0 (replicate 32 none) (replicate 5 noValue) (replicate 5 0))
+    ∷ []
+
+pub states-known : Hold states
+unfolding refused skipped opened added noted
+states-known = refl
 
 -- ---- the length of a text: 65,536 bytes at most
 pub lengths-judged : judgedText 65536 0 0 [] .number ∷ judgedText 65537 0 0 [] .number ∷ [] ≡ 30 ∷ 36 ∷ []

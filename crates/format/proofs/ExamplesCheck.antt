@@ -98,6 +98,10 @@ copies-checked =
     )
 
 -- ---- parts of the rules
+-- a packed grain's marker at sector 0
+abbrev marker : ℕ → ℕ → List ℕ
+marker first size = leBytes 8 first ++ leBytes 4 size
+
 abbrev tests : List (Example Bool)
 tests =
     -- 8, where F is 12: the descriptor's numbers are both zero or both not, and the descriptor is not past F
@@ -114,6 +118,10 @@ tests =
     ∷ example (redundantDirectoryMisplaced 12 (plainHeader 0 0 1 11)) false
     ∷ example (redundantDirectoryMisplaced 12 (plainHeader 0 0 1 12)) true
     ∷ example (redundantDirectoryMisplaced 0 (plainHeader 0 0 1 0)) false
+    -- 10: the size and the first number, grain 3 beginning at sector 24
+    ∷ example (markerBroken (marker 24 1) 8 3 0) false
+    ∷ example (markerBroken (marker 24 0) 8 3 0) true
+    ∷ example (markerBroken (marker 0x100000000000018 1) 8 3 0) true
     -- 11: 0 and 1 stand exactly where they stand in the other directory
     ∷ example (copyDiffers [] 1 Absent Absent) false
     ∷ example (copyDiffers [] 1 Absent Zero) true
@@ -127,7 +135,7 @@ tests =
     ∷ []
 
 pub tests-hold : Hold tests
-unfolding pick leAt anyBelow ifThere runsPast copyDiffers
+unfolding pick leAt leBytes markerBroken anyBelow ifThere runsPast copyDiffers
 tests-hold = refl
 
 -- 513 grains of 8 sectors: 512 entries of table 0 are in use, and one of table 1
@@ -143,10 +151,6 @@ unfolding pick leAt leBytes sameAt zeros grains kdmvFields kdmvHeader directoryO
 counts-hold = refl
 
 -- ---- areas
--- a packed grain's marker at sector 0
-abbrev marker : ℕ → ℕ → List ℕ
-marker first size = leBytes 8 first ++ leBytes 4 size
-
 abbrev listed : List (Example (List Area))
 listed =
     example (headerArea (streamHeader 1)) (area 0 1 ∷ [])
@@ -168,6 +172,7 @@ listed =
     ∷ example (named (grainSectors [] false 8) (Sector 9)) (area 9 8 ∷ [])
     ∷ example (named (grainSectors (marker 0 500) true 8) (Sector 0)) (area 0 1 ∷ [])
     ∷ example (named (grainSectors (marker 0 501) true 8) (Sector 0)) (area 0 2 ∷ [])
+    ∷ example (named (grainSectors (marker 0 0x1000000) true 8) (Sector 0)) (area 0 32769 ∷ [])
     ∷ []
 
 pub areas-listed : Hold listed

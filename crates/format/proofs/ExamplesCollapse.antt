@@ -100,8 +100,8 @@ bytes =
     ∷ (0 ∷ 0x0a ∷ 0x20 ∷ 0x0d ∷ 0x0a ∷ [])
     ∷ zeros 435
     ∷ []))
-    -- one table, at sector 2; unused entries are 0
-    ∷ example (directoryBytes 16 8) (leBytes 4 2 ++ zeros 508)
+    -- tables at sectors 2 and 6; unused entries are 0
+    ∷ example (directoryBytes 4097 8) (leBytes 4 2 ++ leBytes 4 6 ++ zeros 504)
     -- grain 0 zero, grain 1 at V; unused entries are 0
     ∷ example (tableBytes 16 8 (grainsOf [])) (leBytes 4 1 ++ leBytes 4 8 ++ zeros 2040)
     ∷ example (gapBytes 16 8) (zeros 1024)
