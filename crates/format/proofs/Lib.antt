@@ -1,12 +1,3 @@
-pub mod Images
-pub mod Examples
-pub mod ExamplesHeader
-pub mod ExamplesFooter
-pub mod ExamplesCheck
-pub mod ExamplesLookup
-pub mod ExamplesChain
-pub mod ExamplesCollapse
-pub mod ExamplesAnswers
 pub mod Geometry
 pub mod Entries
 pub mod Areas

@@ -18,7 +18,7 @@ use Rattle.format.specs.Check.{misplaced, lowestFrom, copiesDiffer, unlessGrain
 use Rattle.format.specs.Check.{checkLayout, checkFrom, check}
 use Rattle.format.specs.Accepted.{Accepted}
 use Rattle.format.specs.declared.CheckAnswer.the-variants.{Accepted as accepted}
-use Rattle.format.proofs.Images.{cowdSectors, small}
+use Rattle.laws.specs.Images.{cowdSectors, small}
 use Rattle.laws.proofs.AcceptedImage.{accepted-sound}
 
 -- capacity 16, grain size 8, grain 0 stored at sector 8

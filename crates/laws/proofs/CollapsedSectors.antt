@@ -95,7 +95,8 @@ looked {c} {size} {s} p x low =
     let a = layer-accepted p in
     let good = accepted-good s a in
     let one = some-size (layer-sizes p) in
-    let inside = grain-in s (headerOf s) (good .sound .sizes .low) (good .sound .some) (good .areas) x (rw (capacity-is p) low) in
+    let sound = good .sound in
+    let inside = grain-in s (headerOf s) (sound .sizes .low) (sound .some) (good .areas) x (rw (capacity-is p) low) in
     record {
       source = sourceOf s (headerOf s) x;
       found = served s a x (rw (capacity-is p) low);

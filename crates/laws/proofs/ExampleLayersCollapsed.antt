@@ -1,7 +1,7 @@
 -- What the two layers of ExampleLayers collapse to, and the normal form of the lower one, byte by byte.
 use Prim.Native.Nat.{ℕ, zero, suc, _+_, _*_, _≤_, _<_}
 use mathlib.Core.Path.{_≡_, refl, sym, ap, _∙_}
-use mathlib.Core.List.{List, _∷_, _++_, append-nil, append-assoc}
+use mathlib.Core.List.{List, _++_, append-nil, append-assoc}
 use native.Mathlib.Omega.{arith}
 use native.Mathlib.Nat.{add-zero, add-suc, mul-suc}
 use lib.ListN.{length, drop}
@@ -23,61 +23,11 @@ use Rattle.format.proofs.Grains.{onto-self}
 use Rattle.laws.proofs.CollapsedMaps.{layout-same}
 use Rattle.laws.proofs.CollapsedImages.{collapsed-self, collapsed-is}
 use Rattle.laws.proofs.CollapsedAnswer.{layers-collapse}
-use Rattle.laws.proofs.ExampleLayers.{filled, lower, upper, layers}
-use Rattle.laws.proofs.ExampleLayersMaps.{cut, listed, lowerGrains, upperGrains, lower-map, upper-map}
-
--- ---- the bytes
--- sector 0: the header of every collapsed image of these sizes
-unfoldable pub headerSector : List ℕ
-headerSector =
-    0x4b ∷ 0x44 ∷ 0x4d ∷ 0x56  -- magic
-    ∷ 2 ∷ 0 ∷ 0 ∷ 0  -- version
-    ∷ 5 ∷ 0 ∷ 0 ∷ 0  -- flags
-    ∷ 69 ∷ 0 ∷ 0 ∷ 0 ∷ 0 ∷ 0 ∷ 0 ∷ 0  -- capacity
-    ∷ 8 ∷ 0 ∷ 0 ∷ 0 ∷ 0 ∷ 0 ∷ 0 ∷ 0  -- grain size
-    ∷ 0 ∷ 0 ∷ 0 ∷ 0 ∷ 0 ∷ 0 ∷ 0 ∷ 0  -- descriptor
-    ∷ 0 ∷ 0 ∷ 0 ∷ 0 ∷ 0 ∷ 0 ∷ 0 ∷ 0  -- descriptor sectors
-    ∷ 0 ∷ 2 ∷ 0 ∷ 0  -- entries per table
-    ∷ 0 ∷ 0 ∷ 0 ∷ 0 ∷ 0 ∷ 0 ∷ 0 ∷ 0  -- redundant directory
-    ∷ 1 ∷ 0 ∷ 0 ∷ 0 ∷ 0 ∷ 0 ∷ 0 ∷ 0  -- directory
-    ∷ 8 ∷ 0 ∷ 0 ∷ 0 ∷ 0 ∷ 0 ∷ 0 ∷ 0  -- overhead
-    ∷ 0  -- clean
-    ∷ 0x0a ∷ 0x20 ∷ 0x0d ∷ 0x0a  -- newline bytes
-    ∷ 0 ∷ 0  -- compression
-    ∷ zeros 433
-
--- sector 1: the directory, of one entry
-unfoldable pub directorySector : List ℕ
-directorySector = 2 ∷ 0 ∷ 0 ∷ 0 ∷ zeros 508
-
--- sectors 2 to 5: the table, three entries a line
-unfoldable pub collapsedTable : List ℕ
-collapsedTable =
-    0 ∷ 0 ∷ 0 ∷ 0 ∷ 1 ∷ 0 ∷ 0 ∷ 0 ∷ 8 ∷ 0 ∷ 0 ∷ 0
-    ∷ 1 ∷ 0 ∷ 0 ∷ 0 ∷ 1 ∷ 0 ∷ 0 ∷ 0 ∷ 16 ∷ 0 ∷ 0 ∷ 0
-    ∷ 24 ∷ 0 ∷ 0 ∷ 0 ∷ 1 ∷ 0 ∷ 0 ∷ 0 ∷ 32 ∷ 0 ∷ 0 ∷ 0
-    ∷ zeros 2012
-
-unfoldable pub normalTable : List ℕ
-normalTable =
-    0 ∷ 0 ∷ 0 ∷ 0 ∷ 0 ∷ 0 ∷ 0 ∷ 0 ∷ 0 ∷ 0 ∷ 0 ∷ 0
-    ∷ 1 ∷ 0 ∷ 0 ∷ 0 ∷ 1 ∷ 0 ∷ 0 ∷ 0 ∷ 1 ∷ 0 ∷ 0 ∷ 0
-    ∷ 8 ∷ 0 ∷ 0 ∷ 0 ∷ 16 ∷ 0 ∷ 0 ∷ 0 ∷ 24 ∷ 0 ∷ 0 ∷ 0
-    ∷ zeros 2012
-
--- sectors 6 and 7: the gap
-unfoldable pub gapSectors : List ℕ
-gapSectors = zeros 1024
-
--- grains follow
-abbrev pub image : List ℕ → List ℕ → List ℕ
-image table grains = headerSector ++ directorySector ++ table ++ gapSectors ++ grains
-
-unfoldable pub collapsedGrains : List ℕ
-collapsedGrains = filled 0x22 ++ filled 0x25 ++ filled 0x16 ++ cut 0x28
-
-unfoldable pub normalGrains : List ℕ
-normalGrains = filled 0x16 ++ filled 0x17 ++ cut 0x18
+use Rattle.laws.proofs.ExampleLayers.{layers}
+use Rattle.laws.proofs.ExampleLayersMaps.{lower-map, upper-map}
+use Rattle.laws.specs.ExampleLayers.{filled, lower, upper, cut, listed, lowerGrains, upperGrains, headerSector}
+use Rattle.laws.specs.ExampleLayers.{directorySector, collapsedTable, normalTable, gapSectors, image, collapsedGrains}
+use Rattle.laws.specs.ExampleLayers.{normalGrains}
 
 -- ---- they are what is written
 header-is : headerBytes 69 8 ≡ headerSector

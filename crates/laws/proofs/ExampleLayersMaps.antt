@@ -18,31 +18,11 @@ use Rattle.format.specs.Geometry.{grains}
 use Rattle.format.specs.Kdmv.{kdmvFields}
 use Rattle.format.specs.Header.{kdmvHeader, directoryOf, headerOf}
 use Rattle.format.specs.Entries.{meaning, inTable, entryOfGrain}
-use Rattle.format.specs.Grains.{Grain, absent, zeroed, stored, Map, clip, clipAt, grainFrom}
+use Rattle.format.specs.Grains.{Grain, stored, Map, clip, clipAt, grainFrom}
 use Rattle.format.specs.Collapse.{mapOf}
 use Rattle.format.proofs.Grains.{clip-length}
 use Rattle.laws.specs.Layers.{SameGrains, endToEnd}
-use Rattle.laws.proofs.ExampleLayers.{filled, lower, upper}
-
--- the last grain, of which five sectors stand below capacity: zeros past them
-unfoldable pub cut : ℕ → List ℕ
-cut byte = replicate 2560 byte ++ zeros 1536
-
--- the map of a list of grains
-abbrev pub listed : List Grain → Map
-listed l g = getD l g absent
-
-abbrev pub lowerGrains : List Grain
-lowerGrains =
-    absent ∷ absent ∷ absent
-    ∷ zeroed ∷ zeroed ∷ zeroed
-    ∷ stored (filled 0x16) ∷ stored (filled 0x17) ∷ stored (cut 0x18) ∷ []
-
-abbrev pub upperGrains : List Grain
-upperGrains =
-    absent ∷ zeroed ∷ stored (filled 0x22)
-    ∷ absent ∷ zeroed ∷ stored (filled 0x25)
-    ∷ absent ∷ zeroed ∷ stored (cut 0x28) ∷ []
+use Rattle.laws.specs.ExampleLayers.{filled, lower, upper, cut, listed, lowerGrains, upperGrains}
 
 -- ---- a grain of one byte, where `kept` of its bytes stand below capacity
 module _ (c size g byte : ℕ) (s : List ℕ) (e : take (512 * size) s ≡ replicate (512 * size) byte) where

@@ -38,3 +38,10 @@ pub mod NeverUsedCheck
 pub mod NeverUsedChain
 pub mod NeverUsedCollapse
 pub mod NotConstant
+pub mod ExamplesAnswers
+pub mod ExamplesChain
+pub mod ExamplesCheck
+pub mod ExamplesCollapse
+pub mod ExamplesFooter
+pub mod ExamplesHeader
+pub mod ExamplesLookup

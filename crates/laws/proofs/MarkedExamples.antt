@@ -26,7 +26,7 @@ use Rattle.format.specs.declared.Header.{Header}
 use Rattle.format.specs.declared.CheckAnswer.{CheckAnswer}
 use Rattle.format.specs.declared.LookupAnswer.{LookupAnswer}
 use Rattle.format.specs.declared.CollapseAnswer.{CollapseAnswer}
-use Rattle.format.proofs.Images.{kdmvSector, cowdSectors, sample, small}
+use Rattle.laws.specs.Images.{kdmvSector, cowdSectors, sample, small}
 use Rattle.laws.specs.Layers.{Every, none, more}
 
 -- an example: the numbers that the definitions give, and those of document 01

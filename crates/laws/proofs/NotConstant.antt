@@ -30,7 +30,7 @@ use Rattle.format.specs.declared.Verdict.{Verdict}
 use Rattle.format.specs.declared.Located.{Located}
 use Rattle.format.specs.declared.Part.{Part}
 use Rattle.format.specs.declared.Written.{Written}
-use Rattle.format.proofs.Images.{kdmvSector, small}
+use Rattle.laws.specs.Images.{kdmvSector, small}
 use Rattle.descriptor.specs.declared.Described.{Described}
 use Rattle.descriptor.specs.declared.Extent.{Extent}
 use Rattle.descriptor.specs.declared.Found.{Found}

@@ -8,21 +8,21 @@ use Rattle.base.specs.Numbers.{leBytes}
 use Rattle.base.specs.Strings.{sameAt}
 use Rattle.base.specs.Bytes.{over, zeros}
 use Rattle.base.specs.Rows.{rows}
 use Rattle.format.specs.Geometry.{grains, directoryEntries, directorySectors}
 use Rattle.format.specs.Header.{cowdHeader, judge}
 use Rattle.format.specs.Check.{checkFrom}
 use Rattle.format.specs.Chain.{unlike}
 use Rattle.format.specs.Grains.{Map, absent, zeroed, stored, clip, bytesOf, oneIfStored, storedBelow, entryFor}
 use Rattle.format.specs.Layout.{tableCount, tablesAt, tablesEnd, sectorV, sectorOf, headerBytes, directoryBytes}
 use Rattle.format.specs.Layout.{tableBytes, gapBytes, grainBytes, layoutLength}
 use Rattle.format.specs.Collapse.{ifAccepted, writtenIfRoom, normalFrom, normal, collapseFrom, collapse, output}
 use Rattle.format.specs.declared.Header.{Header}
 use Rattle.format.specs.declared.Refusal.the-variants.{TooShort, Magic, TooLittleRoom, LayersDiffer, NotCollapsible}
 use Rattle.format.specs.declared.CheckAnswer.the-variants.{Accepted}
 use Rattle.format.specs.declared.CollapseAnswer.{CollapseAnswer}
 use Rattle.format.specs.declared.CollapseAnswer.the-variants.{Written, Refused}
-use Rattle.format.proofs.Examples.{Example, example, Hold}
-use Rattle.format.proofs.Images.{joined, sizedHeader, streamHeader}
+use Rattle.laws.specs.Examples.{Example, example, Hold}
+use Rattle.laws.specs.Images.{joined, sizedHeader, streamHeader}
 
 -- grain 0 is zero, grain 1 stored, all others absent
 abbrev grainsOf : List ℕ → Map

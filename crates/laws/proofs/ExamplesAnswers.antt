@@ -2,23 +2,23 @@
 use Prim.Native.Nat.{ℕ}
 use mathlib.Core.List.{List, [], _∷_, map}
 use mathlib.Core.Path.{refl}
 use Rattle.format.specs.Answers.{number, place, headerNumbers, verdict, located, chained, written}
 use Rattle.format.specs.declared.Refusal.{Refusal}
 use Rattle.format.specs.declared.Refusal.the-variants.{TooShort, Magic, Version, Newline, Flags, Sizes, Footer, Misplaced}
 use Rattle.format.specs.declared.Refusal.the-variants.{GrainPast, Marker, CopiesDiffer, SharedSector, SectorPast}
 use Rattle.format.specs.declared.Refusal.the-variants.{TooLittleRoom, LayersDiffer, NotCollapsible, LayerLengths}
 use Rattle.format.specs.declared.Source.the-variants.{Absent, Zero, Stored, Packed}
 use Rattle.format.specs.declared.HeaderAnswer.{HeaderAnswer}
 use Rattle.format.specs.declared.HeaderAnswer.the-variants.{Known, Refused as unknown}
 use Rattle.format.specs.declared.CheckAnswer.{CheckAnswer}
 use Rattle.format.specs.declared.CheckAnswer.the-variants.{Accepted, Refused as unaccepted}
 use Rattle.format.specs.declared.LookupAnswer.the-variants.{Found, Refused as notFound}
 use Rattle.format.specs.declared.ChainAnswer.the-variants.{Found as foundIn, Refused as notFoundIn}
 use Rattle.format.specs.declared.CollapseAnswer.{CollapseAnswer}
 use Rattle.format.specs.declared.CollapseAnswer.the-variants.{Written as writtenTo, Refused as notWritten}
 use Rattle.format.specs.declared.Located.{Located}
-use Rattle.format.proofs.Examples.{Example, example, Hold}
-use Rattle.format.proofs.Images.{plainHeader}
+use Rattle.laws.specs.Examples.{Example, example, Hold}
+use Rattle.laws.specs.Images.{plainHeader}
 
 -- ---- an answer's values in the order of the C face
 abbrev headed : HeaderAnswer → List ℕ

@@ -11,15 +11,15 @@ use Rattle.base.specs.Numbers.{leAt, leBytes}
 use Rattle.base.specs.Strings.{sameAt}
 use Rattle.base.specs.Bytes.{over, zeros}
 use Rattle.base.proofs.Steps.{cond-all}
 use Rattle.format.specs.Geometry.{directoryEntries, directorySectors}
 use Rattle.format.specs.Kdmv.{kdmvFields, kdmvFault, footerBroken}
 use Rattle.format.specs.Header.{kdmvHeader, directoryOf, unlessFault, withFooter, judgeKdmv, judge}
 use Rattle.format.specs.Accepted.{FooterRules}
 use Rattle.format.specs.declared.Header.{Header}
 use Rattle.format.specs.declared.Refusal.the-variants.{Footer}
 use Rattle.format.specs.declared.HeaderAnswer.the-variants.{Known, Refused}
-use Rattle.format.proofs.Images.{with, stream, streamHeader}
+use Rattle.laws.specs.Images.{with, stream, streamHeader}
 use Rattle.format.proofs.HeaderFooter.{footer-kept, kept-footer}
 
 -- four sectors: sector 0, one that nothing judges, the footer and the last one
 abbrev four : ℕ → List ℕ

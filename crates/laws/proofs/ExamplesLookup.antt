@@ -7,22 +7,22 @@ use Rattle.base.specs.Rounding.{powerUpTo}
 use Rattle.base.specs.Numbers.{leAt, leBytes}
 use Rattle.base.specs.Strings.{sameAt}
 use Rattle.base.specs.Bytes.{over, zeros}
 use Rattle.format.specs.Geometry.{directoryEntries, directorySectors}
 use Rattle.format.specs.Kdmv.{kdmvFields, kdmvFault}
 use Rattle.format.specs.Header.{kdmvHeader, directoryOf, unlessFault, withFooter, judgeKdmv, judge}
 use Rattle.format.specs.Entries.{meaning, grainSectors, markerBroken}
 use Rattle.format.specs.Source.{grainSource, lookupGrain, lookupEntry, lookupTable, lookupIn, lookupFrom, sectorLookup}
 use Rattle.format.specs.Source.{answerPart, sourceBytes}
 use Rattle.format.specs.declared.Header.{Header}
 use Rattle.format.specs.declared.Source.the-variants.{Absent, Zero, Stored, Packed}
 use Rattle.format.specs.declared.Refusal.the-variants.{Misplaced, GrainPast, Marker, SectorPast}
 use Rattle.format.specs.declared.HeaderAnswer.the-variants.{Known}
 use Rattle.format.specs.declared.LookupAnswer.{LookupAnswer}
 use Rattle.format.specs.declared.LookupAnswer.the-variants.{Found, Refused}
 use Rattle.format.specs.declared.Part.{Part}
-use Rattle.format.proofs.Examples.{Example, example, Hold}
-use Rattle.format.proofs.Images.{small, packed, sizedHeader, plainHeader, streamHeader}
-use Rattle.format.proofs.ExamplesCheck.{packed-known}
+use Rattle.laws.specs.Examples.{Example, example, Hold}
+use Rattle.laws.specs.Images.{small, packed, sizedHeader, plainHeader, streamHeader}
+use Rattle.laws.proofs.ExamplesCheck.{packed-known}
 
 -- the lookup in an image whose header is known
 looked : (s : List ℕ) (h : Header) (x : ℕ) → judge s ≡ Known h → sectorLookup s x ≡ lookupIn s h x

@@ -11,25 +11,25 @@ use Rattle.base.specs.Numbers.{leAt, leBytes}
 use Rattle.base.specs.Strings.{sameAt}
 use Rattle.base.specs.Bytes.{over, zeros}
 use Rattle.base.specs.Rows.{rows}
 use Rattle.format.specs.Geometry.{grains, directoryEntries, directorySectors}
 use Rattle.format.specs.Kdmv.{kdmvFields, kdmvFault}
 use Rattle.format.specs.Header.{kdmvHeader, directoryOf, headerOf, unlessFault, withFooter, judgeKdmv, judge}
 use Rattle.format.specs.Entries.{meaning, inTable, entryOfGrain, entriesInUse, grainSectors, markerBroken, anyBelow}
 use Rattle.format.specs.Areas.{Area, area, ifThere, named, headerArea, descriptorArea, directoryArea, redundantArea}
 use Rattle.format.specs.Areas.{primaryTables, redundantTables, footerArea, lastArea, areas, runsPast, shares, sharesAny}
 use Rattle.format.specs.Areas.{meet}
 use Rattle.format.specs.Check.{descriptorMisplaced, directoryMisplaced, redundantDirectoryMisplaced}
 use Rattle.format.specs.Check.{misplaced, lowestFrom, markerBrokenAt, copyDiffers, copiesDiffer, unlessGrain, checkApart}
 use Rattle.format.specs.Check.{checkCopies, checkGrains, checkLayout, checkFrom, check}
 use Rattle.format.specs.Accepted.{FooterRules}
 use Rattle.format.specs.declared.Header.{Header}
 use Rattle.format.specs.declared.Entry.the-variants.{Absent, Zero, Sector}
 use Rattle.format.specs.declared.Refusal.the-variants.{Misplaced, GrainPast, Marker, CopiesDiffer, SharedSector}
 use Rattle.format.specs.declared.HeaderAnswer.the-variants.{Known}
 use Rattle.format.specs.declared.CheckAnswer.the-variants.{Accepted, Refused}
-use Rattle.format.proofs.Examples.{Example, example, Hold}
-use Rattle.format.proofs.Images.{with, kdmvSector, packed, doubled, plainHeader, streamHeader}
+use Rattle.laws.specs.Examples.{Example, example, Hold}
+use Rattle.laws.specs.Images.{with, kdmvSector, packed, doubled, plainHeader, streamHeader}
 use Rattle.format.proofs.HeaderFooter.{kept-footer}
 
 -- the check of an image whose header is known
 checked : (s : List ℕ) (h : Header) → judge s ≡ Known h → check s ≡ checkLayout s h

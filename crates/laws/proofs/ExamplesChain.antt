@@ -8,21 +8,21 @@ use Rattle.base.specs.Rounding.{powerUpTo}
 use Rattle.base.specs.Numbers.{leAt, leBytes}
 use Rattle.base.specs.Strings.{sameAt}
 use Rattle.base.specs.Bytes.{zeros}
 use Rattle.format.specs.Geometry.{directoryEntries, directorySectors}
 use Rattle.format.specs.Kdmv.{kdmvFields, kdmvFault}
 use Rattle.format.specs.Header.{kdmvHeader, directoryOf, headerOf, unlessFault, withFooter, judgeKdmv, judge}
 use Rattle.format.specs.Entries.{meaning, anyBelow}
 use Rattle.format.specs.Source.{lookupTable, lookupIn, lookupFrom}
 use Rattle.format.specs.Chain.{lengthsSum, ifKnown, headersDown, unlike, unlessAbsent, walkDown, walk, chainLookup}
 use Rattle.format.specs.declared.Source.{Source}
 use Rattle.format.specs.declared.Source.the-variants.{Absent, Zero, Stored, Packed}
 use Rattle.format.specs.declared.Refusal.the-variants.{TooShort, Magic, Misplaced, GrainPast, SectorPast, LayersDiffer}
 use Rattle.format.specs.declared.Refusal.the-variants.{LayerLengths}
 use Rattle.format.specs.declared.LookupAnswer.the-variants.{Found as foundIn, Refused as lookupRefused}
 use Rattle.format.specs.declared.ChainAnswer.{ChainAnswer}
 use Rattle.format.specs.declared.ChainAnswer.the-variants.{Found, Refused}
-use Rattle.format.proofs.Examples.{Example, example, Hold}
-use Rattle.format.proofs.Images.{joined, kdmvSector}
+use Rattle.laws.specs.Examples.{Example, example, Hold}
+use Rattle.laws.specs.Images.{joined, kdmvSector}
 
 -- capacity 8, grain size 8, a directory at sector 1 with one entry: 1,024 bytes
 abbrev layer : ℕ → List ℕ
