@@ -7,4 +7,4 @@ unserved-of-spec =
     tie.close
     (tie.spec
     (λ numbers-of-requires κs. search needs)
-    (λ returns. cc))
+    (λ c. rw (c .numbers-of .ensures .0, c .numbers-of .ensures .1)))
