@@ -8,4 +8,4 @@ anhkhovet-chain-spec =
     (tie.spec
     (λ chain-requires κs. search needs)
     (λ chained-of-requires κs. search needs)
-    (λ returns. cc))
+    (λ c. rw (c .chained-of .ensures, c .before .chain .ensures)))

@@ -8,4 +8,4 @@ anhkhovet-check-spec =
     (tie.spec
     (λ check-requires κs. search needs)
     (λ verdict-of-requires κs. search needs)
-    (λ returns. cc))
+    (λ c. rw (c .verdict-of .ensures, c .before .check .ensures)))

@@ -9,4 +9,7 @@ anhkhovet-collapse-spec =
     (λ collapse-requires κs. search needs)
     (λ written-of-requires κs. search needs)
     (λ same-length. search needs)
-    (λ returns. (cc, cc)))
+    (λ c. (
+      rw (c .written-of .ensures, c .before .before .before .collapse .ensures .0),
+      c .before .before .before .collapse .ensures .1,
+    )))

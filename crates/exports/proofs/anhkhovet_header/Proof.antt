@@ -8,4 +8,4 @@ anhkhovet-header-spec =
     (tie.spec
     (λ judge-requires κs. search needs)
     (λ head-of-requires κs. search needs)
-    (λ returns. cc))
+    (λ c. rw (c .head-of .ensures, c .before .judge .ensures)))

@@ -8,4 +8,4 @@ anhkhovet-lookup-spec =
     (tie.spec
     (λ lookup-requires κs. search needs)
     (λ located-of-requires κs. search needs)
-    (λ returns. cc))
+    (λ c. rw (c .located-of .ensures, c .before .lookup .ensures)))

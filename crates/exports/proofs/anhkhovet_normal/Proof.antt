@@ -9,4 +9,7 @@ anhkhovet-normal-spec =
     (λ normal-requires κs. search needs)
     (λ written-of-requires κs. search needs)
     (λ same-length. search needs)
-    (λ returns. (cc, cc)))
+    (λ c. (
+      rw (c .written-of .ensures, c .before .before .before .normal .ensures .0),
+      c .before .before .before .normal .ensures .1,
+    )))
