@@ -80,7 +80,7 @@ def write_house(log, refused):
     HOUSE.write_text(f"""# The house in numbers
 
 Written by tests/house.py from the sources and the log of a gate's run. Lines count comments and blank ones. Seconds are of
-one job beside another on two cores; edits run after the crates, two at a time.
+one job beside three others on two cores, so about twice those of a job alone; edits run after the crates.
 
 The whole gate: {minutes[1] if minutes else '?'} minutes on two cores ({model[1] if model else 'unknown'}).
 
