@@ -58,17 +58,18 @@ module _ (lo : ℕ) where
       let u = t .2 in
       (lo + t .0, omega (arith, t .3, st (t .0) (omega arith), holds-in a (lo + t .0) (omega arith) (omega arith)))
 
-  -- ---- from words of 0 on, which stand for no areas: one window whole
+  -- ---- from words of 0 on, which stand for no areas: one window whole, its n words never written out
   stands-none : (n : ℕ) → Stands (replicate n 0) lo []
   unfolding holders
   stands-none n i h = none-marked n i
 
-  pub window-told : {ys : List ℕ} {l : List Area} {r : Bool} → Run lo (replicate 131072 0) l ys r → Window l lo r
+  pub window-told : (n : ℕ) {ys : List ℕ} {l : List Area} {r : Bool} → n ≡ 131072 → Run lo (replicate n 0) l ys r
+      → Window l lo r
   unfolding holders
-  window-told g = record {
-    met = λ e. let m = run-met [] g e (stands-none 131072) in (m .0, omega (arith, m .1));
+  window-told n size g = record {
+    met = λ e. let m = run-met [] g e (stands-none n) in (m .0, omega (arith, m .1));
     free = λ e x l u.
         let at : lo + (x - lo) ≡ x = omega arith in
-        let told = run-free [] g e (stands-none 131072) (x - lo) (omega (arith, length-replicate {A = ℕ} 131072 0)) in
+        let told = run-free [] g e (stands-none n) (x - lo) (omega (arith, length-replicate {A = ℕ} n 0)) in
         omega (arith, rw at at told);
   }

@@ -8,4 +8,4 @@ layer-step-spec =
     (tie.spec
     (λ looked-layer-requires κs. search needs)
     (λ step-of-requires κs. search needs)
-    (λ returns. cc))
+    (λ c. rw (c .step-of .ensures, c .before .looked-layer .ensures)))

@@ -8,4 +8,4 @@ differ-at-spec =
     (tie.spec
     (λ entry-at-requires κs. search needs)
     (λ entry-at-requires-2 κs. search needs)
-    (λ returns. cc))
+    (λ c. rw (c .entry-at2 .ensures .0, c .before .entry-at .ensures .0)))

@@ -13,4 +13,9 @@ entry-differs-spec =
     (λ meaning-at-requires κs. search needs)
     (λ meaning-at-requires-2 κs. search needs)
     (λ copy-differs-requires κs. (search room-used, search room-used))
-    (λ returns. cc))
+    (λ c. rw (
+      c .copy-differs .ensures,
+      c .before .meaning-at2 .ensures,
+      c .before .before .meaning-at .ensures,
+      c .before .before .before .entries-in-use .ensures,
+    )))

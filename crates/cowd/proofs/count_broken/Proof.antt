@@ -7,4 +7,4 @@ count-broken-spec =
     tie.close
     (tie.spec
     (λ directory-entries-requires κs. search needs)
-    (λ returns. cc))
+    (λ c. rw (c .before .directory-entries .ensures .0)))

@@ -9,4 +9,4 @@ header-spec =
     tie.close
     (tie.spec
     (λ directory-sectors-requires κs. search needs)
-    (λ returns. cc))
+    (λ c. rw (c .directory-sectors .ensures)))

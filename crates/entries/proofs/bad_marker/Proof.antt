@@ -7,5 +7,5 @@ bad-marker-spec =
     tie.close
     (tie.spec
     (λ marker-broken-requires κs. search needs)
-    (λ returns. cc)
-    (λ returns-2. cc))
+    (λ c. rw (c .marker-broken .ensures, c .before .if1 .taken))
+    (λ c. rw (c .if1 .left)))

@@ -11,4 +11,4 @@ grain-past-spec =
     (λ returns. search past-out)
     (λ grain-sectors-requires κs. search needs)
     (λ ends-past-requires κs. search needs)
-    (λ returns-2. cc))
+    (λ c. rw (c .ends-past .ensures, c .before .grain-sectors .ensures, c .before .before .before .file-sectors .ensures)))

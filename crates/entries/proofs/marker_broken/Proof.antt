@@ -13,4 +13,4 @@ marker-broken-spec =
     (λ mul-u64-at. search needs)
     (λ u64-at-requires κs. search needs)
     (λ mul-result. search first-fits)
-    (λ returns. cc))
+    (λ c. rw (c .u64-at .ensures, c .before .marker-size .ensures .0)))

@@ -8,4 +8,4 @@ meaning-at-spec =
     (tie.spec
     (λ entry-at-requires κs. search needs)
     (λ meaning-of-requires κs. search needs)
-    (λ returns. cc))
+    (λ c. rw (c .meaning-of .ensures, c .before .entry-at .ensures .0)))

@@ -8,4 +8,4 @@ table-past-spec =
     (tie.spec
     (λ file-sectors-requires κs. search needs)
     (λ ends-past-requires κs. search needs)
-    (λ returns. cc))
+    (λ c. rw (c .ends-past .ensures, c .before .file-sectors .ensures)))

@@ -15,4 +15,4 @@ footer-differs-spec =
     (λ part-same-at-start-2. search needs)
     (λ part-same-at-end-2. search needs)
     (λ same-at-requires-2 κs. search needs)
-    (λ returns. cc))
+    (λ c. rw (c .same-at2 .ensures, c .before .before .same-at .ensures)))

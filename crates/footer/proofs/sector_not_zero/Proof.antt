@@ -10,4 +10,4 @@ sector-not-zero-spec =
     (tie.spec
     (λ slice-aggregate-same-at. search needs)
     (λ same-at-requires κs. search needs)
-    (λ returns. cc))
+    (λ c. rw (c .same-at .ensures)))

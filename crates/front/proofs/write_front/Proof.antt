@@ -16,4 +16,13 @@ write-front-spec =
     let room = front-fits _ _ (s .0 .low) _ (s .1) in (s .0, omega arith))
     (λ write-gap-requires κs. search needs)
     (λ same-length. search needs)
-    (λ returns. cc))
+    (λ c.
+    let unused = c .before .before .before .before .before .before in
+    let directory = unused .before .before .before .before in
+    let header = directory .before .before .before .before in
+    rw (
+      c .before .before .write-gap .ensures,
+      unused .write-unused .ensures,
+      directory .write-directory .ensures,
+      header .write-header .ensures,
+    )))

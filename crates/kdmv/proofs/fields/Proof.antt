@@ -20,4 +20,16 @@ fields-spec =
     (λ slice-aggregate-same-at. search needs)
     (λ same-at-requires κs. search needs)
     (λ u16-at-requires κs. search needs)
-    (λ returns. cc))
+    (λ c. rw (
+      c .u16-at .ensures .0,
+      c .before .same-at .ensures,
+      c .before .before .before .u64-at6 .ensures,
+      c .before .before .before .before .u64-at5 .ensures,
+      c .before .before .before .before .before .u32-at3 .ensures .0,
+      c .before .before .before .before .before .before .u64-at4 .ensures,
+      c .before .before .before .before .before .before .before .u64-at3 .ensures,
+      c .before .before .before .before .before .before .before .before .u64-at2 .ensures,
+      c .before .before .before .before .before .before .before .before .before .u64-at .ensures,
+      c .before .before .before .before .before .before .before .before .before .before .u32-at2 .ensures .0,
+      c .before .before .before .before .before .before .before .before .before .before .before .u32-at .ensures .0,
+    )))

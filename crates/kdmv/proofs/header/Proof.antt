@@ -10,4 +10,4 @@ header-spec =
     (tie.spec
     (λ directory-entries-requires κs. search needs)
     (λ directory-sectors-requires κs. search needs)
-    (λ returns. cc))
+    (λ c. rw (c .before .before .directory-sectors .ensures, c .before .before .before .directory-entries .ensures .0)))

@@ -7,4 +7,4 @@ lengths-broken-spec =
     tie.close
     (tie.spec
     (λ sum-is-requires κs. search needs)
-    (λ returns. cc))
+    (λ c. rw (c .sum-is .ensures)))

@@ -10,4 +10,7 @@ line-spec =
     (λ word-requires κs. search needs)
     (λ access-requires κs. search needs)
     (λ line-with-requires κs. search needs)
-    (λ returns. (cc, search bounded)))
+    (λ c. (
+      rw (c .line-with .ensures, c .before .access .ensures, c .before .before .word .ensures .0),
+      search bounded,
+    )))

@@ -1,5 +1,6 @@
 -- `window_meets`: a run from words of 0 on tells of one window.
 use Rattle.overlap.proofs.Told.{window-told}
+use mathlib.Core.Path.{refl}
 use borrow.Author.Needs.{needs}
 use Rattle.overlap.proofs.window_meets.Statement.{statement}
 use Rattle.overlap.proofs.window_meets.Tie as tie
@@ -10,4 +11,4 @@ window-meets-spec =
     (tie.spec
     (λ slice-aggregate-mark-all. search needs)
     (λ c κs. (search needs, c .before .before .pre))
-    (λ c. window-told _ (c .before .mark-all .ensures)))
+    (λ c. window-told _ 131072 refl (c .before .mark-all .ensures)))

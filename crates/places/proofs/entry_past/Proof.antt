@@ -8,4 +8,4 @@ entry-past-spec =
     (tie.spec
     (λ meaning-at-requires κs. search needs)
     (λ named-past-requires κs. search needs)
-    (λ returns. cc))
+    (λ c. rw (c .named-past .ensures, c .before .meaning-at .ensures)))

@@ -9,4 +9,4 @@ primary-tables-misplaced-spec =
     (tie.spec
     (λ directory-entries-requires κs. search needs)
     (λ tables-past-requires κs. search directory-holds)
-    (λ returns. cc))
+    (λ c. rw (c .tables-past .ensures, c .before .directory-entries .ensures .0)))

@@ -7,4 +7,4 @@ grain-size-broken-spec =
     tie.close
     (tie.spec
     (λ power-requires κs. search needs)
-    (λ returns. cc))
+    (λ c. rw (c .power .ensures)))

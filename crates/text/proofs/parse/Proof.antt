@@ -8,4 +8,4 @@ parse-spec =
     (tie.spec
     (λ read-text-requires κs. search needs)
     (λ handed-requires κs. search needs)
-    (λ returns. cc))
+    (λ c. rw (c .handed .ensures, c .before .read-text .ensures)))

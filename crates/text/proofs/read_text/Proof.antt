@@ -12,4 +12,9 @@ read-text-spec =
     (λ before-requires κs. search needs)
     (λ count-before-requires κs. search needs)
     (λ judged-text-requires κs. search needs)
-    (λ returns. cc))
+    (λ c. rw (
+      c .judged-text .ensures,
+      c .before .count-before .ensures .0,
+      c .before .before .before2 .ensures .0,
+      c .before .before .before .rest .ensures .0,
+    )))

@@ -8,4 +8,4 @@ refused-first-spec =
     (tie.spec
     (λ start-requires κs. search needs)
     (λ refused-requires κs. search needs)
-    (λ returns. cc))
+    (λ c. rw (c .refused .ensures .0, c .before .start .ensures .0)))

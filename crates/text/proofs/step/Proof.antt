@@ -15,4 +15,7 @@ step-spec =
     (λ add-judged-line. search needs)
     (λ trim-start-requires κs. search needs)
     (λ judged-line-requires κs. search needs)
-    (λ returns. (cc, search needs)))
+    (λ c. (
+      rw (c .judged-line .ensures .0, c .before .trim-start .ensures .0, c .before .before .trim-end .ensures .0),
+      search needs,
+    )))

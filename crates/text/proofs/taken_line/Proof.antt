@@ -8,4 +8,4 @@ taken-line-spec =
     (tie.spec
     (λ line-requires κs. search needs)
     (λ taken-requires κs. search needs)
-    (λ returns. (cc, search needs)))
+    (λ c. (rw (c .taken .ensures .0, c .before .line .ensures .0), search needs)))

@@ -9,4 +9,4 @@ after-quoted-spec =
     (λ quoted-length-requires κs. search needs)
     (λ add-after. search needs)
     (λ after-requires κs. search needs)
-    (λ returns. (cc, search needs)))
+    (λ c. (rw (c .after .ensures .0, c .before .quoted-length .ensures .0), search needs)))

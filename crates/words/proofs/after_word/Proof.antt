@@ -8,4 +8,4 @@ after-word-spec =
     (tie.spec
     (λ rest-requires κs. search needs)
     (λ rest-requires-2 κs. search needs)
-    (λ returns. (cc, search needs)))
+    (λ c. (rw (c .rest2 .ensures .0, c .before .rest .ensures .0), search needs)))

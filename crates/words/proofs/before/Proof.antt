@@ -9,4 +9,4 @@ before-spec =
     (tie.spec
     (λ count-before-requires κs. search needs)
     (λ slice-aggregate-result. search front-long)
-    (λ returns. (cc, search front-short)))
+    (λ c. (rw (c .before .count-before .ensures .0), search front-short)))

@@ -9,4 +9,4 @@ digit-spec =
     (λ shared-slice-read-wide. search needs)
     (λ wide-requires κs. search needs)
     (λ digit-value-requires κs. search needs)
-    (λ returns. cc))
+    (λ c. rw (c .digit-value .ensures, c .before .wide .ensures .0)))

@@ -10,4 +10,4 @@ line-end-spec =
     (λ after-requires κs. search needs)
     (λ count-before-requires κs. search needs)
     (λ add-result. search needs)
-    (λ returns. (cc, search end-inside)))
+    (λ c. (rw (c .count-before .ensures .0, c .before .after .ensures .0), search end-inside)))

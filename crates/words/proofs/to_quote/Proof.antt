@@ -9,4 +9,7 @@ to-quote-spec =
     (λ after-requires κs. search needs)
     (λ count-before-requires κs. search needs)
     (λ to-quote-at-requires κs. search needs)
-    (λ returns. (cc, search needs)))
+    (λ c. (
+      rw (c .to-quote-at .ensures .0, c .before .count-before .ensures .0, c .before .before .after .ensures .0),
+      search needs,
+    )))

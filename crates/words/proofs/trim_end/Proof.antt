@@ -9,4 +9,4 @@ trim-end-spec =
     (tie.spec
     (λ kept-requires κs. search needs)
     (λ slice-aggregate-result. search front-long)
-    (λ returns. (cc, search front-short)))
+    (λ c. (rw (c .before .kept .ensures .0), search front-short)))

@@ -14,4 +14,8 @@ access-spec =
     (λ number-if-requires-2 κs. search needs)
     (λ slice-aggregate-number-if-3. search needs)
     (λ number-if-requires-3 κs. search needs)
-    (λ returns. cc))
+    (λ c. rw (
+      c .number-if3 .ensures,
+      c .before .before .number-if2 .ensures,
+      c .before .before .before .before .number-if .ensures,
+    )))

@@ -11,4 +11,4 @@ blanks-then-decimal-spec =
     (λ count-before-requires κs. search needs)
     (λ rest-requires κs. search needs)
     (λ blanks-then-decimal-at-requires κs. search needs)
-    (λ returns. cc))
+    (λ c. rw (c .blanks-then-decimal-at .ensures, c .before .rest .ensures .0, c .before .before .count-before .ensures .0)))

@@ -8,4 +8,4 @@ extent-line-spec =
     (tie.spec
     (λ after-word-requires κs. search needs)
     (λ from-sectors-requires κs. search needs)
-    (λ returns. cc))
+    (λ c. rw (c .from-sectors .ensures, c .before .after-word .ensures .0)))

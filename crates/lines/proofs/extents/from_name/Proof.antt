@@ -13,4 +13,10 @@ from-name-spec =
     (λ quoted-place-requires κs. search needs)
     (λ quoted-length-requires κs. search needs)
     (λ with-name-requires κs. search needs)
-    (λ returns. cc))
+    (λ c. rw (
+      c .with-name .ensures,
+      c .before .quoted-length .ensures .0,
+      c .before .before .quoted-place .ensures,
+      c .before .before .before .offset .ensures,
+      c .before .before .before .before .after-quoted .ensures .0,
+    )))

@@ -10,4 +10,9 @@ from-sectors-spec =
     (λ decimal-requires κs. search needs)
     (λ after-word-requires κs. search needs)
     (λ with-sectors-requires κs. search needs)
-    (λ returns. cc))
+    (λ c. rw (
+      c .with-sectors .ensures,
+      c .before .after-word .ensures .0,
+      c .before .before .decimal .ensures,
+      c .before .before .before .word .ensures .0,
+    )))

@@ -10,4 +10,9 @@ from-type-spec =
     (λ kind-requires κs. search needs)
     (λ after-word-requires κs. search needs)
     (λ with-type-requires κs. search needs)
-    (λ returns. cc))
+    (λ c. rw (
+      c .with-type .ensures,
+      c .before .after-word .ensures .0,
+      c .before .before .kind .ensures,
+      c .before .before .before .word .ensures .0,
+    )))

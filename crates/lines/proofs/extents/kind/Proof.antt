@@ -18,4 +18,10 @@ kind-spec =
     (λ number-if-requires-4 κs. search needs)
     (λ slice-aggregate-number-if-5. search needs)
     (λ number-if-requires-5 κs. search needs)
-    (λ returns. cc))
+    (λ c. rw (
+      c .number-if5 .ensures,
+      c .before .before .number-if4 .ensures,
+      c .before .before .before .before .number-if3 .ensures,
+      c .before .before .before .before .before .before .number-if2 .ensures,
+      c .before .before .before .before .before .before .before .before .number-if .ensures,
+    )))

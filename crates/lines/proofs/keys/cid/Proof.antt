@@ -8,4 +8,4 @@ cid-spec =
     (tie.spec
     (λ hex-requires κs. search needs)
     (λ cid-is-requires κs. search needs)
-    (λ returns. cc))
+    (λ c. rw (c .cid-is .ensures, c .before .hex .ensures)))

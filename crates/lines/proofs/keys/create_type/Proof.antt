@@ -9,4 +9,4 @@ create-type-spec =
     (λ quoted-place-requires κs. search needs)
     (λ quoted-length-requires κs. search needs)
     (λ create-type-is-requires κs. search needs)
-    (λ returns. cc))
+    (λ c. rw (c .create-type-is .ensures, c .before .quoted-length .ensures .0, c .before .before .quoted-place .ensures)))

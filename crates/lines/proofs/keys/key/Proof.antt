@@ -16,4 +16,9 @@ key-spec =
     (λ number-if-requires-3 κs. search needs)
     (λ slice-aggregate-number-if-4. search needs)
     (λ number-if-requires-4 κs. search needs)
-    (λ returns. cc))
+    (λ c. rw (
+      c .number-if4 .ensures,
+      c .before .before .number-if3 .ensures,
+      c .before .before .before .before .number-if2 .ensures,
+      c .before .before .before .before .before .before .number-if .ensures,
+    )))

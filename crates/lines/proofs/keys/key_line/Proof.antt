@@ -8,4 +8,4 @@ key-line-spec =
     (tie.spec
     (λ count-before-requires κs. search needs)
     (λ split-at-requires κs. search needs)
-    (λ returns. cc))
+    (λ c. rw (c .split-at .ensures, c .before .count-before .ensures .0)))

@@ -16,4 +16,10 @@ split-at-spec =
     (λ trim-start-requires κs. search needs)
     (λ key-requires κs. search needs)
     (λ with-key-requires κs. search needs)
-    (λ returns. cc))
+    (λ c. rw (
+      c .with-key .ensures,
+      c .before .key .ensures,
+      c .before .before .trim-start .ensures .0,
+      c .before .before .before .after .ensures .0,
+      c .before .before .before .before .trim-end .ensures .0,
+    )))

@@ -8,4 +8,4 @@ version-spec =
     (tie.spec
     (λ decimal-requires κs. search needs)
     (λ version-is-requires κs. search needs)
-    (λ returns. cc))
+    (λ c. rw (c .version-is .ensures, c .before .decimal .ensures)))
