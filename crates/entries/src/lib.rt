@@ -2,7 +2,7 @@
 ghost use mathlib.Core.Path.{_≡_};
 ghost use mathlib.Core.Bool.{_&&_};
 ghost use lib.Dec.{ltb};
-ghost use Prim.Native.Nat.{_+_, _*_, _≤_, _<_};
+ghost use Prim.Native.Nat.{_+_, _-_, _*_, _≤_, _<_};
 ghost use lib.ListN.{length};
 ghost use Rattle.format.specs.Geometry.{fileSectors};
 ghost use Rattle.format.specs.Entries.{entryAt, meaning, meaningAt, markerSize, grainSectors, markerBroken};
@@ -15,6 +15,17 @@ pub fn file_sectors(image: &[u8]) -> u64
     ensures { λ r. ⌜ r ≡ fileSectors (now (image .entry)) ⌝ }
 {
     (image.len() / 512) as u64
+}
+
+// The sector n before the file's end; 0 if there are fewer.
+pub fn before_end(image: &[u8], n: u64) -> u64
+    ensures { λ r. ⌜ r ≡ fileSectors (now (image .entry)) - n ⌝ }
+{
+    let sectors = file_sectors(image);
+    if sectors <= n {
+        return 0;
+    }
+    sectors - n
 }
 
 // Entry k of the directory or table that starts at sector t.

@@ -4,7 +4,7 @@ use mathlib.Core.Path.{_≡_, refl, sym, ap, _∙_}
 use mathlib.Core.Bool.{false}
 use lib.Dec.{eqb}
 use Rattle.base.specs.Pick.{pick}
-use Rattle.format.specs.Answers.{number, place, verdict, located, chained, written}
+use Rattle.format.specs.Answers.{number, place, verdict, located, chained, written, framed}
 use Rattle.format.specs.declared.Refusal.{Refusal}
 use Rattle.format.specs.declared.Refusal.the-variants.{TooShort, Magic, Version, Newline, Flags, Sizes, Footer, Misplaced}
 use Rattle.format.specs.declared.Refusal.the-variants.{GrainPast, Marker, CopiesDiffer, SharedSector, SectorPast}
@@ -19,9 +19,12 @@ use Rattle.format.specs.declared.ChainAnswer.{ChainAnswer}
 use Rattle.format.specs.declared.ChainAnswer.the-variants.{Found as foundIn, Refused as notFoundIn}
 use Rattle.format.specs.declared.CollapseAnswer.{CollapseAnswer}
 use Rattle.format.specs.declared.CollapseAnswer.the-variants.{Written as writtenTo, Refused as notWritten}
+use Rattle.format.specs.declared.FrameAnswer.{FrameAnswer}
+use Rattle.format.specs.declared.FrameAnswer.the-variants.{Listed, Refused as notListed}
 use Rattle.format.specs.declared.Verdict.{Verdict}
 use Rattle.format.specs.declared.Located.{Located}
 use Rattle.format.specs.declared.Written.{Written}
+use Rattle.format.specs.declared.Framed.{Framed}
 
 -- what can be told back is told without loss
 lossless : {A B : Type 0} (tell : A → B) (back : B → A) → ((a : A) → back (tell a) ≡ a) → (a b : A) → tell a ≡ tell b → a ≡ b
@@ -140,3 +143,15 @@ collapse-back (notWritten r) = rw (told r .some, told r .back)
 
 pub collapse-alike : (a b : CollapseAnswer) → written a ≡ written b → a ≡ b
 collapse-alike = lossless written collapseOf collapse-back
+
+-- ---- the frame
+abbrev frameOf : Framed → FrameAnswer
+frameOf f = pick (eqb (f .number) 0) (Listed (f .count)) (notListed (refusalOf (f .number) (f .place)))
+
+frame-back : (a : FrameAnswer) → frameOf (framed a) ≡ a
+unfolding pick
+frame-back (Listed n) = refl
+frame-back (notListed r) = rw (told r .some, told r .back)
+
+pub frame-alike : (a b : FrameAnswer) → framed a ≡ framed b → a ≡ b
+frame-alike = lossless framed frameOf frame-back

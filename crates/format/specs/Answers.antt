@@ -16,9 +16,12 @@ use Rattle.format.specs.declared.ChainAnswer.{ChainAnswer}
 use Rattle.format.specs.declared.ChainAnswer.the-variants.{Found as foundIn, Refused as chainRefused}
 use Rattle.format.specs.declared.CollapseAnswer.{CollapseAnswer}
 use Rattle.format.specs.declared.CollapseAnswer.the-variants.{Written as writtenTo, Refused as collapseRefused}
+use Rattle.format.specs.declared.FrameAnswer.{FrameAnswer}
+use Rattle.format.specs.declared.FrameAnswer.the-variants.{Listed, Refused as frameRefused}
 use Rattle.format.specs.declared.Verdict.{Verdict}
 use Rattle.format.specs.declared.Located.{Located}
 use Rattle.format.specs.declared.Written.{Written}
+use Rattle.format.specs.declared.Framed.{Framed}
 use Rattle.format.specs.declared.Head.{Head}
 
 -- ---- refusals: number and place
@@ -107,3 +110,8 @@ chained (chainRefused layer r) = unserved layer r
 abbrev pub written : CollapseAnswer → Written
 written (writtenTo long) = record { number = 0; place = 0; length = long }
 written (collapseRefused r) = record { number = number r; place = place r; length = 0 }
+
+-- ---- the frame: how many areas are listed
+abbrev pub framed : FrameAnswer → Framed
+framed (Listed count) = record { number = 0; place = 0; count = count }
+framed (frameRefused r) = record { number = number r; place = place r; count = 0 }

@@ -6,6 +6,7 @@ pub mod Entries
 pub mod Areas
 pub mod Check
 pub mod Accepted
+pub mod Frame
 pub mod Source
 pub mod Chain
 pub mod Grains

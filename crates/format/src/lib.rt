@@ -127,6 +127,12 @@ pub enum CollapseAnswer {
     Refused(Refusal),
 }
 
+pub enum FrameAnswer {
+    // How many areas the list tells of.
+    Listed(u64),
+    Refused(Refusal),
+}
+
 // The same in numbers, as document 01 has them: number 0 is an answer, and what does not apply is 0.
 #[repr(C)]
 pub struct Verdict {
@@ -153,6 +159,14 @@ pub struct Written {
     pub number: u64,
     pub place: u64,
     pub length: u64,
+}
+
+// The areas of an image but its grains.
+#[repr(C)]
+pub struct Framed {
+    pub number: u64,
+    pub place: u64,
+    pub count: u64,
 }
 
 // A header judged alone, with the descriptor's numbers as it has them.

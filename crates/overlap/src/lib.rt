@@ -1,11 +1,10 @@
 // Refusal 12: whether a sector lies in two areas of an image. Runs of sectors are marked in windows of the file.
 ghost use mathlib.Core.Path.{_≡_};
-ghost use Prim.Native.Nat.{_-_};
-ghost use Rattle.format.specs.Geometry.{fileSectors};
 ghost use Rattle.format.specs.Header.{directoryEntriesOf};
 ghost use Rattle.format.specs.Areas.{redundantTables, grainAreas, areas, meet};
 ghost use Rattle.window.specs.Run.{Run, Counted, Window};
 ghost use Rattle.overlap.specs.InFile.{InFile, headAreas, directoryAreas, frontAreas, tablesOfBoth, backAreas, Ends};
+use entries::before_end;
 use entries::file_sectors;
 use format::Header;
 use named::mark_grains;
@@ -98,17 +97,6 @@ fn mark_tables_of_both(words: &mut [u64], lo: u64, image: &[u8], h: Header) -> b
         return true;
     }
     mark_copies(&mut *words, lo, image, h, n)
-}
-
-// The sector n before the file's end; 0 if there are fewer.
-fn before_end(image: &[u8], n: u64) -> u64
-    ensures { λ r. ⌜ r ≡ fileSectors (now (image .entry)) - n ⌝ }
-{
-    let sectors = file_sectors(image);
-    if sectors <= n {
-        return 0;
-    }
-    sectors - n
 }
 
 // Marks footer and last sector, where used.

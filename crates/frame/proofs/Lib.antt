@@ -1,0 +1,2 @@
+pub mod FrameCounts
+pub mod FrameSteps

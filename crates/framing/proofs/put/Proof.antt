@@ -1,0 +1,25 @@
+use native.Mathlib.Omega.{arith}
+use native.Mathlib.Numerals.{towards-suc}
+use lib.ListN.{length-set}
+use Rattle.base.proofs.Over.{over-sets}
+use Rattle.format.specs.Frame.{toldArea, told}
+use borrow.Author.Needs.{needs}
+use Rattle.framing.proofs.put.Statement.{statement}
+use Rattle.framing.proofs.put.Tie as tie
+
+pub put-spec : {M : Type 1} → statement M
+unfolding toldArea told
+put-spec =
+    tie.close
+    (tie.spec
+    (λ mul-list. search needs)
+    (λ slice-write-list. omega arith)
+    (λ add-list. search needs)
+    (λ mul-list-2. search needs)
+    (λ slice-write-list-2. simp length-set (omega arith))
+    (λ add-list-2. search needs)
+    (λ mul-list-3. search needs)
+    (λ slice-write-list-3. simp length-set (omega arith))
+    (λ add-result. search needs)
+    (λ same-length. search needs)
+    (λ returns. record { words = simp towards-suc (over-sets _ _ _ (omega arith)); next = omega arith }))
