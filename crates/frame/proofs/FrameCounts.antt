@@ -51,7 +51,8 @@ module _ (s : List ℕ) (b : Bool) (directory : ℕ) where
   unfolding rows
   tables-none sectors = refl
 
-  pub tables-more : {count r : ℕ} {entry : Entry} (d : ℕ) → ((sectors : ℕ) → count ≡ length (tableAreas s b sectors directory d))
+  pub tables-more : {count r : ℕ} {entry : Entry} (d : ℕ)
+      → ((sectors : ℕ) → count ≡ length (tableAreas s b sectors directory d))
       → entry ≡ meaningAt s b directory d → r ≡ oneIfNamed entry
       → (sectors : ℕ) → count + r ≡ length (tableAreas s b sectors directory (d + 1))
   unfolding rows
@@ -67,7 +68,8 @@ module _ (s : List ℕ) (b : Bool) (directory : ℕ) where
             (named (λ t. sectors) (meaningAt s b directory d)),
       ))
 
-  pub tables-all : {count : ℕ} (n d : ℕ) → ((sectors : ℕ) → count ≡ length (tableAreas s b sectors directory d)) → d ≤ n → n ≤ d
+  pub tables-all : {count : ℕ} (n d : ℕ) → ((sectors : ℕ) → count ≡ length (tableAreas s b sectors directory d)) → d ≤ n
+      → n ≤ d
       → (sectors : ℕ) → count ≡ length (tableAreas s b sectors directory n)
   tables-all n d w h g = let e : n ≡ d = omega arith in rw e w
 

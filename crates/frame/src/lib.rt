@@ -105,8 +105,8 @@ fn frame_in(image: &[u8], h: Header, list: &mut [u64]) -> FrameAnswer
     list_areas(image, h, &mut *list)
 }
 
-// The areas of an image but its grains, three words each from the list's start on; or the first of 1 to 8 that it breaks, or 21.
-// Words past them, and all on a refusal, are kept.
+// The areas of an image but its grains, three words each from the list's start on; or the first of 1 to 8 that it breaks, or
+// 21. Words past them, and all on a refusal, are kept.
 pub fn frame(image: &[u8], list: &mut [u64]) -> FrameAnswer
     ensures { λ r. ⌜ r ≡ frame (now (image .entry)) (length (now (list .entry))) ⌝ }
     ensures { λ r. ⌜ now (list .exit) ≡ frameList (now (image .entry)) (now (list .entry)) ⌝ }

@@ -42,7 +42,8 @@ module _ (group at : ℕ) (p : ℕ → List Area) (d : List ℕ) where
     pub rows-more : {y : List ℕ} {r : ℕ} → WordsPut (told group (p k)) x next y r
         → WordsPut (told group (rows (k + 1) p)) d at y r
     unfolding rows
-    rows-more q = rw (add-one, told-append group (rows k p) (p k)) (put-more (rw (told-append group (rows k p) (p k)) at up) w q)
+    rows-more q =
+        let apart = told-append group (rows k p) (p k) in rw (add-one, apart) (put-more (rw apart at up) w q)
 
   pub rows-all : {x : List ℕ} {next : ℕ} (n k : ℕ) → WordsPut (told group (rows k p)) d at x next → k ≤ n → n ≤ k
       → WordsPut (told group (rows n p)) d at x next

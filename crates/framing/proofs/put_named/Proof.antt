@@ -15,4 +15,6 @@ put-named-spec =
     (λ c. put-nothing _ _ _ _ (named-absent _ _ (c .enum-told .given .1)))
     (λ c. put-nothing _ _ _ _ (named-zero _ _ (c .enum-told2 .given .1)))
     (λ same-length. search needs)
-    (λ c. put-as _ _ _ _ (named-one _ _ _ (c .before .before .before .before .before .entry .given .1)) (c .before .before .put .ensures)))
+    (λ c.
+    let known = c .before .before .before .before .before in
+    put-as _ _ _ _ (named-one _ _ _ (known .entry .given .1)) (c .before .before .put .ensures)))
