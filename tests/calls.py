@@ -45,7 +45,9 @@ def lacks(call, wrong):
         "a row in docs/PROMISES.md, Public calls": f"| `anhkhovet_{call}` |" in text("docs/PROMISES.md"),
         f"a line '{call} ..' in crates/cases/stdout": re.search(rf"(?m)^{call} ", text("crates/cases/stdout")),
         f"`anhkhovet_{call}` declared in rust/anhkhovet": f"pub fn anhkhovet_{call}(" in text(binding),
-        f"`{call}`, safe, in rust/anhkhovet": re.search(rf"pub fn {call}\(", text("rust/anhkhovet/src/lib.rs")),
+        f"`{call}` in rust/anhkhovet/src/raw.rs": re.search(rf"pub fn {call}(_part)?\(", text("rust/anhkhovet/src/raw.rs")),
+        f"`{call}` made public in rust/anhkhovet/src/lib.rs":
+            re.search(rf"pub use [^;]*\b{call}\b", text("rust/anhkhovet/src/lib.rs")),
         f"`{call}` in rust/plain": re.search(rf"pub fn {call}\(", text(plain)),
         f"`{call}` made public in rust/plain/src/lib.rs": re.search(rf"pub use [^;]*\b{call}\b", text("rust/plain/src/lib.rs")),
         f"`{call}` in the trait of rust/compare/src/side.rs": f"fn {call}(&self" in text("rust/compare/src/side.rs"),

@@ -1,93 +1,33 @@
-//! The proved library, safe to call. What each call answers is document 01's and is proved in `crates/`.
+//! The proved library of disk images, safe to call: sparse VMDK images (KDMV), COWD images and descriptor texts.
 //!
-//! Each `unsafe` below rests on the same ground: a slice's pointer and count describe memory that is lent for the call,
-//! shared or exclusive as the slice is, and the library keeps neither.
+//! Every call looks at bytes that are lent to it, keeps nothing, and reads no file. Any bytes and any numbers may be handed in:
+//! what breaks a rule is a [`Refusal`], never a fault. What each call answers is document 01's and is proved in `crates/`; the
+//! calls of [`raw`] give the same answers as plain numbers, with no list of their own.
+//!
+//! - [`check`] judges a whole image, [`header`] its header alone.
+//! - [`lookup`] says where a sector comes from, [`chain`] the same for layers on top of each other, and [`read`] hands over
+//!   its bytes.
+//! - [`normal`] and [`collapse`] write an image into memory that is lent.
+//! - [`descriptor`] reads a descriptor text, and [`find`] says which extent holds a sector.
+//!
+//! Words: a *sector* is 512 bytes. An image stores its disk in *grains* of some sectors each; an *entry* of a *table* says where a
+//! grain is, and an entry of the *directory* where a table is.
+//!
+//! The archive of the library holds x86-64 code. Where it stands is told in `rust/README.md`.
 
 mod face;
+mod images;
+pub mod raw;
+mod refusal;
+mod sectors;
+mod texts;
+mod writing;
 
-pub use face::{Described, Extent, Found, Head, Located, Part, Verdict, Written};
+pub use images::{check, header, Disk, Header};
+pub use refusal::{ChainRefusal, Counted, Refusal};
+pub use sectors::{chain, lookup, read, read_part, Located, Source};
+pub use texts::{descriptor, find, Access, Descriptor, Extent, ExtentKind};
+pub use writing::{collapse, normal};
 
-/// The full check: refusals 1 to 12, or capacity and grain size.
-pub fn check(image: &[u8]) -> Verdict {
-    // SAFETY: see the top of the file.
-    unsafe { face::anhkhovet_check(image.as_ptr(), image.len()) }
-}
-
-/// The header alone: refusals 1 to 7.
-pub fn header(image: &[u8]) -> Head {
-    // SAFETY: see the top of the file.
-    unsafe { face::anhkhovet_header(image.as_ptr(), image.len()) }
-}
-
-/// Where virtual sector `sector` comes from.
-pub fn lookup(image: &[u8], sector: u64) -> Located {
-    // SAFETY: see the top of the file.
-    unsafe { face::anhkhovet_lookup(image.as_ptr(), image.len(), sector) }
-}
-
-/// Where virtual sector `sector` of a chain comes from: layers end to end, base first, and their lengths.
-pub fn chain(layers: &[u8], lengths: &[u64], sector: u64) -> Located {
-    // SAFETY: see the top of the file.
-    unsafe {
-        face::anhkhovet_chain(
-            layers.as_ptr(),
-            layers.len(),
-            lengths.as_ptr(),
-            lengths.len(),
-            sector,
-        )
-    }
-}
-
-/// The place of the bytes that `read` hands back.
-pub fn read_part(image: &[u8], sector: u64) -> Part {
-    // SAFETY: see the top of the file.
-    unsafe { face::anhkhovet_read(image.as_ptr(), image.len(), sector) }
-}
-
-/// The grain reader: 512 bytes of a stored sector, the payload of a packed grain, else an empty part.
-pub fn read(image: &[u8], sector: u64) -> &[u8] {
-    let part = read_part(image, sector);
-    let from = part.at as usize;
-    &image[from..from + part.length as usize]
-}
-
-/// Writes the normal form of an image over the start of `out`.
-pub fn normal(image: &[u8], out: &mut [u8]) -> Written {
-    // SAFETY: see the top of the file.
-    unsafe { face::anhkhovet_normal(image.as_ptr(), image.len(), out.as_mut_ptr(), out.len()) }
-}
-
-/// Writes the collapse of two images over the start of `out`.
-pub fn collapse(lower: &[u8], upper: &[u8], out: &mut [u8]) -> Written {
-    // SAFETY: see the top of the file.
-    unsafe {
-        face::anhkhovet_collapse(
-            lower.as_ptr(),
-            lower.len(),
-            upper.as_ptr(),
-            upper.len(),
-            out.as_mut_ptr(),
-            out.len(),
-        )
-    }
-}
-
-/// Reads a descriptor and stores its extents at the start of the lent list.
-pub fn descriptor(text: &[u8], extents: &mut [Extent]) -> Described {
-    // SAFETY: see the top of the file.
-    unsafe {
-        face::anhkhovet_descriptor(
-            text.as_ptr(),
-            text.len(),
-            extents.as_mut_ptr(),
-            extents.len(),
-        )
-    }
-}
-
-/// The first record of the list that holds `sector`.
-pub fn find(extents: &[Extent], sector: u64) -> Found {
-    // SAFETY: see the top of the file.
-    unsafe { face::anhkhovet_find(extents.as_ptr(), extents.len(), sector) }
-}
+/// Bytes of a sector.
+pub const SECTOR: u64 = 512;

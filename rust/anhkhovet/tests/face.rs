@@ -1,24 +1,10 @@
-//! The binding on small inputs: empty slices, each struct's fields in their places, and the reader's part.
+//! The raw calls on small inputs: empty slices, each struct's fields in their places, and the reader's part.
 
-use anhkhovet::{chain, check, header, lookup, read, read_part, Located, Part, Verdict};
+mod common;
 
-/// Capacity 200, grain size 8, descriptor at 6, grain 2 stored at sector 8, grain 3 zero.
-fn image() -> Vec<u8> {
-    let mut image = vec![0; 16 * 512];
-    image[..4].copy_from_slice(b"KDMV");
-    image[4] = 1;
-    image[12] = 200;
-    image[20] = 8;
-    image[28] = 6;
-    image[36] = 2;
-    image[45] = 2;
-    image[56] = 1;
-    image[512] = 2;
-    image[2 * 512 + 8] = 8;
-    image[2 * 512 + 12] = 1;
-    image[8 * 512..].fill(7);
-    image
-}
+use anhkhovet::raw::{self, chain, check, header, lookup, read_part, Located, Part, Verdict};
+use anhkhovet::read;
+use common::image;
 
 #[test]
 fn one_image() {
@@ -72,21 +58,21 @@ fn empty_slices() {
 fn writing() {
     let image = image();
     let mut out = vec![9; 16 * 512 + 1];
-    let written = anhkhovet::normal(&image, &mut out);
+    let written = raw::normal(&image, &mut out);
     assert_eq!((written.number, written.length), (0, 16 * 512));
     assert_eq!(out[16 * 512], 9);
     let before = out.clone();
-    assert_eq!(anhkhovet::collapse(&image, &image, &mut out), written);
+    assert_eq!(raw::collapse(&image, &image, &mut out), written);
     assert_eq!(out, before);
-    assert_eq!(anhkhovet::normal(&image, &mut []).number, 21);
+    assert_eq!(raw::normal(&image, &mut []).number, 21);
 }
 
 #[test]
 fn descriptor() {
-    use anhkhovet::{find, Extent};
+    use raw::{find, Extent};
     let text = b"# Disk DescriptorFile\nversion=1\nCID=2\nparentCID=3\ncreateType=\"t\"\nRDONLY 100 VMFS \"n\" 5";
     let mut list = [Extent::default(); 2];
-    let described = anhkhovet::descriptor(text, &mut list);
+    let described = raw::descriptor(text, &mut list);
     assert_eq!((described.number, described.extents), (0, 1));
     assert_eq!((described.version, described.cid), (1, 2));
     assert_eq!((described.parent_cid, described.type_length), (3, 1));
@@ -102,7 +88,7 @@ fn descriptor() {
     };
     assert_eq!(list, [extent, Extent::default()]);
     assert_eq!((find(&list, 99).number, find(&list, 100).number), (0, 20));
-    assert_eq!(anhkhovet::descriptor(text, &mut []).number, 21);
+    assert_eq!(raw::descriptor(text, &mut []).number, 21);
     assert_eq!(find(&[], 0).number, 20);
-    assert_eq!(anhkhovet::descriptor(&[], &mut list).number, 30);
+    assert_eq!(raw::descriptor(&[], &mut list).number, 30);
 }

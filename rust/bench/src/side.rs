@@ -2,6 +2,7 @@
 
 #[cfg(feature = "proved")]
 mod proved {
+    use anhkhovet::raw;
     use plain::{Described, Extent, Located, Verdict, Written};
 
     /// A struct of the one side from the other's, field by field.
@@ -13,24 +14,24 @@ mod proved {
     }
 
     pub fn check(image: &[u8]) -> Verdict {
-        same!(anhkhovet::check(image) => Verdict { number, place, capacity, grain_size })
+        same!(raw::check(image) => Verdict { number, place, capacity, grain_size })
     }
 
     pub fn lookup(image: &[u8], sector: u64) -> Located {
-        same!(anhkhovet::lookup(image, sector) => Located { number, layer, place, kind, sector, size, offset })
+        same!(raw::lookup(image, sector) => Located { number, layer, place, kind, sector, size, offset })
     }
 
     pub fn chain(layers: &[u8], lengths: &[u64], sector: u64) -> Located {
-        same!(anhkhovet::chain(layers, lengths, sector) => Located { number, layer, place, kind, sector, size, offset })
+        same!(raw::chain(layers, lengths, sector) => Located { number, layer, place, kind, sector, size, offset })
     }
 
     pub fn collapse(lower: &[u8], upper: &[u8], out: &mut [u8]) -> Written {
-        same!(anhkhovet::collapse(lower, upper, out) => Written { number, place, length })
+        same!(raw::collapse(lower, upper, out) => Written { number, place, length })
     }
 
     pub fn describe(text: &[u8]) -> (Described, Vec<Extent>) {
-        let mut records = [anhkhovet::Extent::default(); plain::MOST_EXTENTS];
-        let described = anhkhovet::descriptor(text, &mut records);
+        let mut records = [raw::Extent::default(); plain::MOST_EXTENTS];
+        let described = raw::descriptor(text, &mut records);
         let described = same!(described => Described { number, place, extents, version, cid, parent_cid, type_at, type_length });
         // The plain side hands over a list too: both pay for it.
         let used = &records[..described.extents as usize];
@@ -44,6 +45,7 @@ pub use proved::{chain, check, collapse, describe, lookup};
 
 #[cfg(not(feature = "proved"))]
 mod stand_in {
+    use anhkhovet::raw;
     use plain::{Described, Extent, Written};
 
     pub fn collapse(lower: &[u8], upper: &[u8], out: &mut [u8]) -> Written {

@@ -52,7 +52,7 @@ impl Side for Plain {
 #[cfg(feature = "proved")]
 mod proved {
     use super::*;
-    use anhkhovet::Extent as Record;
+    use anhkhovet::raw::{self, Extent as Record};
 
     /// The proved library, through its C face.
     pub struct Proved;
@@ -67,29 +67,29 @@ mod proved {
 
     impl Side for Proved {
         fn check(&self, image: &[u8]) -> Verdict {
-            same!(anhkhovet::check(image) => Verdict { number, place, capacity, grain_size })
+            same!(raw::check(image) => Verdict { number, place, capacity, grain_size })
         }
         fn header(&self, image: &[u8]) -> Head {
-            same!(anhkhovet::header(image) => Head { number, place, capacity, grain_size, descriptor, descriptor_sectors })
+            same!(raw::header(image) => Head { number, place, capacity, grain_size, descriptor, descriptor_sectors })
         }
         fn lookup(&self, image: &[u8], sector: u64) -> Located {
-            same!(anhkhovet::lookup(image, sector) => Located { number, layer, place, kind, sector, size, offset })
+            same!(raw::lookup(image, sector) => Located { number, layer, place, kind, sector, size, offset })
         }
         fn chain(&self, layers: &[u8], lengths: &[u64], sector: u64) -> Located {
-            same!(anhkhovet::chain(layers, lengths, sector) => Located { number, layer, place, kind, sector, size, offset })
+            same!(raw::chain(layers, lengths, sector) => Located { number, layer, place, kind, sector, size, offset })
         }
         fn read(&self, image: &[u8], sector: u64) -> Part {
-            same!(anhkhovet::read_part(image, sector) => Part { at, length })
+            same!(raw::read_part(image, sector) => Part { at, length })
         }
         fn normal(&self, image: &[u8], out: &mut [u8]) -> Written {
-            same!(anhkhovet::normal(image, out) => Written { number, place, length })
+            same!(raw::normal(image, out) => Written { number, place, length })
         }
         fn collapse(&self, lower: &[u8], upper: &[u8], out: &mut [u8]) -> Written {
-            same!(anhkhovet::collapse(lower, upper, out) => Written { number, place, length })
+            same!(raw::collapse(lower, upper, out) => Written { number, place, length })
         }
         fn descriptor(&self, text: &[u8], list: &mut [Extent]) -> Described {
             let mut records: Vec<Record> = list.iter().map(record).collect();
-            let described = anhkhovet::descriptor(text, &mut records);
+            let described = raw::descriptor(text, &mut records);
             for (to, from) in list.iter_mut().zip(&records) {
                 *to = same!(from => Extent { first, sectors, access, kind, name_at, name_length, offset });
             }
@@ -97,7 +97,7 @@ mod proved {
         }
         fn find(&self, list: &[Extent], sector: u64) -> Found {
             let records: Vec<Record> = list.iter().map(record).collect();
-            same!(anhkhovet::find(&records, sector) => Found { number, place, extent })
+            same!(raw::find(&records, sector) => Found { number, place, extent })
         }
     }
 

@@ -23,7 +23,7 @@ fn image(grains: [u32; 4]) -> Vec<u8> {
 }
 
 fn refusal(grains: [u32; 4]) -> u64 {
-    let verdict = anhkhovet::check(&image(grains));
+    let verdict = anhkhovet::raw::check(&image(grains));
     assert_eq!(verdict.place, 0);
     verdict.number
 }

@@ -1,26 +1,19 @@
 //! `check`: each image by itself.
 
-use crate::failure::{name, Failure, Refusal};
+use crate::failure::{name, Failure};
 use crate::files::Layers;
 use crate::print;
 use crate::progress::Progress;
+use anhkhovet::Disk;
 use serde_json::{json, Value};
 use std::path::{Path, PathBuf};
 
-fn one(path: &Path) -> Result<(u64, u64), Failure> {
+fn one(path: &Path) -> Result<Disk, Failure> {
     let layers = Layers::one(path)?.scattered();
     let _progress = Progress::start(&format!("checking {}", path.display()), 0);
     let verdict = anhkhovet::check(layers.bytes(0));
     layers.same()?;
-    if verdict.number == 0 {
-        Ok((verdict.capacity, verdict.grain_size))
-    } else {
-        Err(Failure::Refused(Refusal::new(
-            verdict.number,
-            verdict.place,
-            Some(path),
-        )))
-    }
+    verdict.map_err(Failure::refused(path))
 }
 
 pub fn check(paths: &[PathBuf], json: bool) -> Result<(), Failure> {
@@ -29,7 +22,10 @@ pub fn check(paths: &[PathBuf], json: bool) -> Result<(), Failure> {
     for path in paths {
         let mut object = json!({ "file": name(path) });
         match one(path) {
-            Ok((capacity, grain_size)) => {
+            Ok(Disk {
+                capacity,
+                grain_size,
+            }) => {
                 if !json {
                     let file = path.display();
                     print::text(&format!(

@@ -1,33 +1,23 @@
 //! `describe`: what a descriptor says, in a file of its own or inside an image.
 
-use crate::failure::{Failure, Refusal};
+use crate::failure::Failure;
 use crate::files::Layers;
 use crate::print;
-use crate::source::SECTOR;
-use anhkhovet::{Described, Extent};
+use anhkhovet::{Descriptor, Extent, Refusal, SECTOR};
 use serde_json::{json, Value};
+use std::ops::Range;
 use std::path::Path;
-
-/// As many as document 01 allows.
-const EXTENTS: usize = 32;
 
 /// The text: the whole file, or the part of an image that its header names.
 fn text<'a>(layers: &'a Layers, path: &Path) -> Result<(&'a [u8], bool), Failure> {
     let image = layers.bytes(0);
-    let head = anhkhovet::header(image);
-    match head.number {
-        0 => {}
+    let head = match anhkhovet::header(image) {
+        Ok(head) => head,
         // No magic at all: not an image, so it is taken for text.
-        2 => return Ok((image, false)),
-        1 if image.len() < 4 => return Ok((image, false)),
-        _ => {
-            return Err(Failure::Refused(Refusal::new(
-                head.number,
-                head.place,
-                Some(path),
-            )))
-        }
-    }
+        Err(Refusal { number: 2, .. }) => return Ok((image, false)),
+        Err(Refusal { number: 1, .. }) if image.len() < 4 => return Ok((image, false)),
+        Err(refusal) => return Err(Failure::refused(path)(refusal)),
+    };
     if head.descriptor == 0 && head.descriptor_sectors == 0 {
         return Err(Failure::unfit(path, "the image has no descriptor inside"));
     }
@@ -42,41 +32,17 @@ fn text<'a>(layers: &'a Layers, path: &Path) -> Result<(&'a [u8], bool), Failure
             Ok((&image[from as usize..end as usize], true))
         }
         // The check judges the descriptor's place first of all places, and tells how.
-        _ => {
-            let verdict = anhkhovet::check(image);
-            Err(Failure::Refused(Refusal::new(
-                verdict.number,
-                verdict.place,
-                Some(path),
-            )))
-        }
-    }
-}
-
-fn access(extent: &Extent) -> &'static str {
-    match extent.access {
-        1 => "RW",
-        2 => "RDONLY",
-        _ => "NOACCESS",
-    }
-}
-
-fn kind(extent: &Extent) -> &'static str {
-    match extent.kind {
-        1 => "FLAT",
-        2 => "VMFS",
-        3 => "SPARSE",
-        4 => "VMFSSPARSE",
-        _ => "ZERO",
+        _ => match anhkhovet::check(image) {
+            Err(refusal) => Err(Failure::refused(path)(refusal)),
+            // Only an image that changes under the tool gets here.
+            Ok(_) => Err(Failure::changed(path)),
+        },
     }
 }
 
 /// A part of the text, for eyes and JSON.
-fn part(text: &[u8], at: u64, length: u64) -> String {
-    let at = at as usize;
-    let bytes = text
-        .get(at..at.saturating_add(length as usize))
-        .unwrap_or(&[]);
+fn part(text: &[u8], part: &Range<usize>) -> String {
+    let bytes = text.get(part.clone()).unwrap_or(&[]);
     String::from_utf8_lossy(bytes).into_owned()
 }
 
@@ -84,25 +50,25 @@ fn extent_object(text: &[u8], extent: &Extent) -> Value {
     json!({
         "first": extent.first,
         "sectors": extent.sectors,
-        "access": access(extent),
-        "type": kind(extent),
-        "name": part(text, extent.name_at, extent.name_length),
+        "access": extent.access.word(),
+        "type": extent.kind.word(),
+        "name": part(text, &extent.name),
         "offset": extent.offset,
     })
 }
 
-fn object(text: &[u8], said: &Described, extents: &[Extent], embedded: bool) -> Value {
+fn object(text: &[u8], said: &Descriptor, embedded: bool) -> Value {
     json!({
         "embedded": embedded,
         "version": said.version,
         "cid": format!("{:08x}", said.cid),
         "parent_cid": format!("{:08x}", said.parent_cid),
-        "create_type": part(text, said.type_at, said.type_length),
-        "extents": extents.iter().map(|extent| extent_object(text, extent)).collect::<Vec<_>>(),
+        "create_type": part(text, &said.create_type),
+        "extents": said.extents.iter().map(|extent| extent_object(text, extent)).collect::<Vec<_>>(),
     })
 }
 
-fn lines(text: &[u8], said: &Described, extents: &[Extent], embedded: bool) -> String {
+fn lines(text: &[u8], said: &Descriptor, embedded: bool) -> String {
     let place = if embedded {
         "inside an image"
     } else {
@@ -118,18 +84,18 @@ fn lines(text: &[u8], said: &Described, extents: &[Extent], embedded: bool) -> S
         said.version,
         said.cid,
         said.parent_cid,
-        part(text, said.type_at, said.type_length),
+        part(text, &said.create_type),
     );
     all += "extent        first      sectors access   type           offset name\n";
-    for (number, extent) in extents.iter().enumerate() {
+    for (number, extent) in said.extents.iter().enumerate() {
         let line = format!(
             "{number:>6} {:>12} {:>12} {:<8} {:<10} {:>10} {}",
             extent.first,
             extent.sectors,
-            access(extent),
-            kind(extent),
+            extent.access.word(),
+            extent.kind.word(),
             extent.offset,
-            part(text, extent.name_at, extent.name_length),
+            part(text, &extent.name),
         );
         all += line.trim_end();
         all.push('\n');
@@ -140,37 +106,18 @@ fn lines(text: &[u8], said: &Described, extents: &[Extent], embedded: bool) -> S
 pub fn describe(path: &Path, sector: Option<u64>, json: bool) -> Result<(), Failure> {
     let layers = Layers::one(path)?;
     let (text, embedded) = text(&layers, path)?;
-    let mut extents = [Extent::default(); EXTENTS];
-    let said = anhkhovet::descriptor(text, &mut extents);
+    let said = anhkhovet::descriptor(text);
     layers.same()?;
-    if said.number != 0 {
-        return Err(Failure::Refused(Refusal::new(
-            said.number,
-            said.place,
-            Some(path),
-        )));
-    }
-    let extents = &extents[..said.extents as usize];
-
+    let said = said.map_err(Failure::refused(path))?;
     let held = match sector {
         None => None,
         Some(sector) => {
-            let found = anhkhovet::find(extents, sector);
-            if found.number != 0 {
-                return Err(Failure::Refused(Refusal::new(
-                    found.number,
-                    found.place,
-                    Some(path),
-                )));
-            }
-            Some((sector, found.extent))
+            let found = anhkhovet::find(&said.extents, sector);
+            Some((sector, found.map_err(Failure::refused(path))?))
         }
     };
     // The text is read once more for its names: what is told is looked at before.
-    let (mut told, mut value) = (
-        lines(text, &said, extents, embedded),
-        object(text, &said, extents, embedded),
-    );
+    let (mut told, mut value) = (lines(text, &said, embedded), object(text, &said, embedded));
     layers.same()?;
     if let Some((sector, extent)) = held {
         told += &format!("sector {sector}: extent {extent}\n");

@@ -5,8 +5,8 @@ use crate::files::Layers;
 use crate::print::Printer;
 use crate::progress::Progress;
 use crate::sector::hex;
-use crate::source::{self, Kind, SECTOR};
-use anhkhovet::Located;
+use crate::source;
+use anhkhovet::{Disk, Located, Source, SECTOR};
 use serde_json::{json, Value};
 use sha2::{Digest, Sha256};
 use std::path::PathBuf;
@@ -47,7 +47,10 @@ pub struct Digests<'a> {
 
 impl<'a> Digests<'a> {
     pub fn of(layers: &'a Layers) -> Result<Digests<'a>, Failure> {
-        let (capacity, grain_size) = layers.geometry()?;
+        let Disk {
+            capacity,
+            grain_size,
+        } = layers.disk()?;
         Ok(Digests {
             layers,
             capacity,
@@ -66,7 +69,7 @@ impl<'a> Digests<'a> {
 
     /// The digest of some sectors of one grain that is not packed, whose first is located.
     fn open(&mut self, first: u64, sectors: u64, found: &Located) -> Result<String, Failure> {
-        if !matches!(Kind::of(found), Kind::Stored(_)) {
+        if !matches!(found.source, Source::Stored { .. }) {
             return Ok(self.zeros(sectors));
         }
         let mut hash = Sha256::new();
@@ -83,10 +86,10 @@ impl<'a> Digests<'a> {
     }
 
     fn located(&mut self, sector: u64, grains: bool, found: &Located) -> Result<Line, Failure> {
-        if let Kind::Packed(..) = Kind::of(found) {
+        if let Source::Packed { offset, .. } = found.source {
             let payload = source::bytes(self.layers, sector, found)?;
             return Ok(Line {
-                sector: sector - found.offset,
+                sector: sector - offset,
                 digest: hex(&Sha256::digest(payload)),
                 packed: true,
             });
@@ -113,7 +116,7 @@ impl<'a> Digests<'a> {
         while first < self.capacity {
             let found = self.layers.locate(first)?;
             let end = self.capacity.min(first + self.grain_size);
-            let packed = matches!(Kind::of(&found), Kind::Packed(..));
+            let packed = matches!(found.source, Source::Packed { .. });
             let last = if grains || packed { first + 1 } else { end };
             for sector in first..last {
                 take(self.located(sector, grains, &found)?)?;

@@ -1,6 +1,5 @@
 //! Why a command gave no answer, and how that is told.
 
-use crate::sentences::{place, sentence, Place};
 use serde_json::{json, Value};
 use std::fmt;
 use std::io;
@@ -9,8 +8,7 @@ use std::path::{Path, PathBuf};
 /// A refusal by document 01's rules. Without a file it concerns all that were handed in.
 #[derive(Debug)]
 pub struct Refusal {
-    pub number: u64,
-    pub place: u64,
+    pub why: anhkhovet::Refusal,
     pub file: Option<PathBuf>,
     /// What the sentence leaves open, or nothing.
     pub detail: String,
@@ -32,10 +30,9 @@ pub enum Failure {
 }
 
 impl Refusal {
-    pub fn new(number: u64, place: u64, file: Option<&Path>) -> Refusal {
+    pub fn new(why: anhkhovet::Refusal, file: Option<&Path>) -> Refusal {
         Refusal {
-            number,
-            place,
+            why,
             file: file.map(Path::to_path_buf),
             detail: String::new(),
         }
@@ -43,9 +40,9 @@ impl Refusal {
 
     pub fn json(&self) -> Value {
         let mut object = json!({
-            "number": self.number,
-            "place": self.place,
-            "sentence": sentence(self.number, self.place),
+            "number": self.why.number,
+            "place": self.why.place,
+            "sentence": self.why.sentence(),
         });
         if let Some(file) = &self.file {
             object["file"] = name(file);
@@ -58,6 +55,11 @@ impl Refusal {
 }
 
 impl Failure {
+    /// One file's refusal.
+    pub fn refused(file: &Path) -> impl FnOnce(anhkhovet::Refusal) -> Failure + '_ {
+        move |why| Failure::Refused(Refusal::new(why, Some(file)))
+    }
+
     pub fn system(file: &Path, tried: &'static str) -> impl FnOnce(io::Error) -> Failure {
         let file = file.to_path_buf();
         move |error| Failure::System(file, tried, error)
@@ -94,13 +96,7 @@ impl fmt::Display for Refusal {
         if let Some(file) = &self.file {
             write!(to, "{}: ", file.display())?;
         }
-        write!(to, "refused {}", self.number)?;
-        match place(self.number, self.place) {
-            Place::Grain => write!(to, " at grain {}", self.place)?,
-            Place::Line => write!(to, " at line {}", self.place)?,
-            Place::Nothing => {}
-        }
-        write!(to, ": {}", sentence(self.number, self.place))?;
+        self.why.fmt(to)?;
         if !self.detail.is_empty() {
             write!(to, " ({})", self.detail)?;
         }

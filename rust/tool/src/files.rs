@@ -3,7 +3,7 @@
 use crate::failure::{Failure, Refusal};
 use crate::guard::Watch;
 use crate::span::Span;
-use anhkhovet::Located;
+use anhkhovet::{ChainRefusal, Disk, Located};
 use std::fs::File;
 use std::os::unix::fs::MetadataExt;
 use std::path::{Path, PathBuf};
@@ -159,31 +159,31 @@ impl Layers {
     /// Where a sector comes from, or the refusal.
     pub fn locate(&self, sector: u64) -> Result<Located, Failure> {
         let found = if self.layers.len() == 1 {
+            let layer = 0;
             anhkhovet::lookup(self.span.bytes(), sector)
+                .map(|source| Located { layer, source })
+                .map_err(|refusal| ChainRefusal { refusal, layer })
         } else {
             anhkhovet::chain(self.span.bytes(), &self.lengths, sector)
         };
-        if found.number == 0 {
-            Ok(found)
-        } else {
+        found.or_else(|refused| {
             self.same()?;
-            Err(Failure::Refused(self.refusal(&found)))
-        }
+            Err(Failure::Refused(self.refusal(&refused)))
+        })
     }
 
     /// A refusal of the whole chain names no layer: the library says 0 there.
-    fn refusal(&self, found: &Located) -> Refusal {
-        let whole = self.layers.len() > 1 && matches!(found.number, 20 | 22 | 24);
-        let file = if whole {
-            None
-        } else {
-            Some(self.path(found.layer))
+    fn refusal(&self, refused: &ChainRefusal) -> Refusal {
+        let file = match refused.layer_at_fault() {
+            None if self.layers.len() > 1 => None,
+            _ => Some(self.path(refused.layer)),
         };
-        let mut refusal = Refusal::new(found.number, found.place, file);
-        match found.number {
+        let mut refusal = Refusal::new(refused.refusal, file);
+        match refused.refusal.number {
             20 => {
-                let capacity = anhkhovet::header(self.bytes(0)).capacity;
-                refusal.detail = format!("the last sector is {}", capacity.saturating_sub(1));
+                if let Ok(disk) = disk(self.bytes(0)) {
+                    refusal.detail = format!("the last sector is {}", disk.capacity - 1);
+                }
             }
             22 => {
                 let paths: Vec<_> = (0..self.layers.len() as u64)
@@ -198,30 +198,33 @@ impl Layers {
     }
 
     /// Capacity and grain size, once the chain is known to have one of each.
-    pub fn geometry(&self) -> Result<(u64, u64), Failure> {
+    pub fn disk(&self) -> Result<Disk, Failure> {
         self.locate(0)?;
-        let head = anhkhovet::header(self.bytes(0));
-        Ok((head.capacity, head.grain_size))
+        disk(self.bytes(0)).map_err(Failure::refused(self.path(0)))
     }
+}
+
+fn disk(image: &[u8]) -> Result<Disk, anhkhovet::Refusal> {
+    Ok(anhkhovet::header(image)?.disk)
 }
 
 /// The first image whose capacity or grain size is not the base's, beside the base.
 pub fn unlike(images: &[(&Path, &[u8])]) -> String {
-    let told = |path: &Path, bytes: &[u8]| {
-        let head = anhkhovet::header(bytes);
-        let text = format!(
+    let told = |(path, disk): (&Path, Disk)| {
+        format!(
             "{} has capacity {} and grain size {}",
             path.display(),
-            head.capacity,
-            head.grain_size
-        );
-        (text, (head.capacity, head.grain_size))
+            disk.capacity,
+            disk.grain_size
+        )
     };
-    let mut all = images.iter().map(|(path, bytes)| told(path, bytes));
+    let mut all = images
+        .iter()
+        .filter_map(|(path, bytes)| Some((*path, disk(bytes).ok()?)));
     match all.next() {
-        Some((base, geometry)) => match all.find(|(_, other)| *other != geometry) {
-            Some((other, _)) => format!("{base}, {other}"),
-            None => base,
+        Some(base) => match all.find(|(_, other)| *other != base.1) {
+            Some(other) => format!("{}, {}", told(base), told(other)),
+            None => told(base),
         },
         None => String::new(),
     }

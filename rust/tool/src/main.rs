@@ -15,7 +15,6 @@ mod output;
 mod print;
 mod progress;
 mod sector;
-mod sentences;
 mod source;
 mod span;
 mod write;

@@ -4,7 +4,8 @@ use crate::failure::{name, Failure};
 use crate::files::Layers;
 use crate::print::Printer;
 use crate::progress::Progress;
-use crate::source::{Kind, SECTOR};
+use crate::source::{file_sector, word};
+use anhkhovet::{Disk, Located, Source, SECTOR};
 use serde_json::{json, Value};
 use std::path::PathBuf;
 
@@ -13,16 +14,18 @@ struct Run {
     first: u64,
     sectors: u64,
     layer: u64,
-    kind: Kind,
+    source: Source,
 }
 
 impl Run {
     /// Whether a grain from there goes on where this run ends.
-    fn goes_on(&self, layer: u64, kind: Kind) -> bool {
-        self.layer == layer
-            && match (self.kind, kind) {
-                (Kind::Absent, Kind::Absent) | (Kind::Zero, Kind::Zero) => true,
-                (Kind::Stored(at), Kind::Stored(next)) => at + self.sectors == next,
+    fn goes_on(&self, next: &Located) -> bool {
+        self.layer == next.layer
+            && match (self.source, next.source) {
+                (Source::Absent, Source::Absent) | (Source::Zero, Source::Zero) => true,
+                (Source::Stored { sector: at }, Source::Stored { sector: next }) => {
+                    at + self.sectors == next
+                }
                 // Each packed grain is a source of its own.
                 _ => false,
             }
@@ -33,26 +36,28 @@ impl Run {
             "first": self.first,
             "sectors": self.sectors,
             "layer": self.layer,
-            "kind": self.kind.word(),
+            "kind": word(self.source),
         });
-        if let Some(at) = self.kind.file_sector() {
+        if let Some(at) = file_sector(self.source) {
             object["file_sector"] = json!(at);
             object["byte_offset"] = json!(at * SECTOR);
         }
-        if let Kind::Packed(_, size) = self.kind {
+        if let Source::Packed { size, .. } = self.source {
             object["size"] = json!(size);
         }
         object
     }
 
     fn line(&self) -> String {
-        let place = match self.kind {
-            Kind::Absent | Kind::Zero => String::new(),
-            Kind::Stored(at) => format!(" {at:>12} {:>14}", at * SECTOR),
-            Kind::Packed(at, size) => format!(" {at:>12} {:>14} {size:>7}", at * SECTOR),
+        let place = match self.source {
+            Source::Absent | Source::Zero => String::new(),
+            Source::Stored { sector: at } => format!(" {at:>12} {:>14}", at * SECTOR),
+            Source::Packed {
+                sector: at, size, ..
+            } => format!(" {at:>12} {:>14} {size:>7}", at * SECTOR),
         };
         let (first, sectors, layer, kind) =
-            (self.first, self.sectors, self.layer, self.kind.word());
+            (self.first, self.sectors, self.layer, word(self.source));
         format!("{first:>12} {sectors:>12} {layer:>5} {kind:<7}{place}")
             .trim_end()
             .to_string()
@@ -60,21 +65,20 @@ impl Run {
     }
 }
 
-fn runs(layers: &Layers, capacity: u64, grain_size: u64) -> Result<Vec<Run>, Failure> {
-    let progress = Progress::start("mapping", capacity);
+fn runs(layers: &Layers, disk: Disk) -> Result<Vec<Run>, Failure> {
+    let progress = Progress::start("mapping", disk.capacity);
     let mut runs: Vec<Run> = Vec::new();
     let mut first = 0;
-    while first < capacity {
+    while first < disk.capacity {
         let found = layers.locate(first)?;
-        let kind = Kind::of(&found);
-        let sectors = grain_size.min(capacity - first);
+        let sectors = disk.grain_size.min(disk.capacity - first);
         match runs.last_mut() {
-            Some(run) if run.goes_on(found.layer, kind) => run.sectors += sectors,
+            Some(run) if run.goes_on(&found) => run.sectors += sectors,
             _ => runs.push(Run {
                 first,
                 sectors,
                 layer: found.layer,
-                kind,
+                source: found.source,
             }),
         }
         first += sectors;
@@ -85,8 +89,12 @@ fn runs(layers: &Layers, capacity: u64, grain_size: u64) -> Result<Vec<Run>, Fai
 
 pub fn map(paths: &[PathBuf], json: bool) -> Result<(), Failure> {
     let layers = Layers::open(paths)?.scattered();
-    let (capacity, grain_size) = layers.geometry()?;
-    let runs = runs(&layers, capacity, grain_size)?;
+    let disk = layers.disk()?;
+    let Disk {
+        capacity,
+        grain_size,
+    } = disk;
+    let runs = runs(&layers, disk)?;
     layers.same()?;
 
     let mut printer = Printer::new();

@@ -5,7 +5,8 @@ use crate::failure::{name, Failure};
 use crate::files::Layers;
 use crate::output::Output;
 use crate::print::{self, Printer};
-use crate::source::{self, Kind, SECTOR};
+use crate::source;
+use anhkhovet::{Source, SECTOR};
 use serde_json::{json, Value};
 use std::path::PathBuf;
 
@@ -28,10 +29,11 @@ pub fn read(
 ) -> Result<(), Failure> {
     let layers = Layers::open(paths)?.scattered();
     let found = layers.locate(sector)?;
-    let kind = Kind::of(&found);
-    let bytes = match kind {
-        Kind::Absent | Kind::Zero => vec![0; SECTOR as usize],
-        Kind::Stored(_) | Kind::Packed(..) => source::bytes(&layers, sector, &found)?.to_vec(),
+    let bytes = match found.source {
+        Source::Absent | Source::Zero => vec![0; SECTOR as usize],
+        Source::Stored { .. } | Source::Packed { .. } => {
+            source::bytes(&layers, sector, &found)?.to_vec()
+        }
     };
     layers.same()?;
 
@@ -40,10 +42,9 @@ pub fn read(
         output.write(&bytes)?;
         output.finish()?;
     }
-    if let Kind::Packed(_, size) = kind {
+    if let Source::Packed { size, offset, .. } = found.source {
         eprintln!(
-            "anhkhovet: sector {sector} is packed: these {size} bytes are the closed payload of its whole grain, and once unpacked it is sector {} of that",
-            found.offset
+            "anhkhovet: sector {sector} is packed: these {size} bytes are the closed payload of its whole grain, and once unpacked it is sector {offset} of that"
         );
     }
     if json {

@@ -6,20 +6,21 @@ use crate::files::{unlike, Layers};
 use crate::output::{Mapped, Output};
 use crate::print;
 use crate::progress::Progress;
-use crate::source::SECTOR;
-use anhkhovet::Written;
+use anhkhovet::{Disk, SECTOR};
 use serde_json::json;
 use std::path::{Path, PathBuf};
 
 /// The largest length that the result can have: every sector of the images' files a stored grain's, after header,
 /// directory and tables. What isn't written takes no room, and the result is cut to its length.
 fn largest(images: &[&[u8]]) -> u64 {
-    let head = anhkhovet::header(images[0]);
-    // A refused header has no size; the call on an empty output then tells the refusal.
-    if head.number != 0 {
-        return 0;
-    }
-    let (capacity, size) = (head.capacity, head.grain_size);
+    let Disk {
+        capacity,
+        grain_size: size,
+    } = match anhkhovet::header(images[0]) {
+        Ok(header) => header.disk,
+        // A refused header has no size; the call on an empty output then tells the refusal.
+        Err(_) => return 0,
+    };
     let tables = up(capacity, 512 * size);
     let start = up(1 + up(tables * 4, SECTOR) + 4 * tables, size) * size;
     let held: u64 = images
@@ -64,6 +65,9 @@ impl Image {
     }
 }
 
+/// The length that the library wrote, or its refusal.
+type Written = Result<u64, anhkhovet::Refusal>;
+
 /// Lends the library an output of the largest length.
 fn lend(
     target: &Target,
@@ -82,19 +86,19 @@ fn lend(
 }
 
 /// Whose refusal it is: the library judges the lower image, then the upper one, and tells only the number.
-fn blamed(written: &Written, lower: (&Path, &[u8]), upper: (&Path, &[u8])) -> Refusal {
-    let lowers = match written.number {
-        1..=12 => anhkhovet::check(lower.1).number != 0,
-        23 => anhkhovet::normal(lower.1, &mut []).number == 23,
+fn blamed(why: anhkhovet::Refusal, lower: (&Path, &[u8]), upper: (&Path, &[u8])) -> Refusal {
+    let lowers = match why.number {
+        1..=12 => anhkhovet::check(lower.1).is_err(),
+        23 => anhkhovet::normal(lower.1, &mut []) == Err(why),
         _ => false,
     };
-    let file = match written.number {
+    let file = match why.number {
         1..=12 | 23 if lowers => Some(lower.0),
         1..=12 | 23 => Some(upper.0),
         _ => None,
     };
-    let mut refusal = Refusal::new(written.number, written.place, file);
-    if written.number == 22 {
+    let mut refusal = Refusal::new(why, file);
+    if why.number == 22 {
         refusal.detail = unlike(&[lower, upper]);
     }
     refusal
@@ -114,19 +118,12 @@ pub fn normal(path: &Path, target: &Target, json: bool) -> Result<(), Failure> {
     let progress = Progress::start("writing the normal form", 0);
     let (written, mapped) = lend(target, &[image], |out| anhkhovet::normal(image, out))?;
     layers.same()?;
-    let mapped = match (written.number, mapped) {
-        (0, Some(mapped)) => mapped,
-        _ => {
-            return Err(Failure::Refused(Refusal::new(
-                written.number,
-                written.place,
-                Some(path),
-            )))
-        }
-    };
-    mapped.finish(written.length)?;
+    let length = written.map_err(Failure::refused(path))?;
+    // Only an image that changes under the tool has a header that is first refused and then not.
+    let mapped = mapped.ok_or_else(|| Failure::changed(path))?;
+    mapped.finish(length)?;
     drop(progress);
-    told(target, written.length, json)
+    told(target, length, json)
 }
 
 pub fn collapse(paths: &[PathBuf], target: &Target, json: bool) -> Result<(), Failure> {
@@ -144,18 +141,12 @@ pub fn collapse(paths: &[PathBuf], target: &Target, json: bool) -> Result<(), Fa
         })?;
         lower.same()?;
         upper.same()?;
-        let mapped = match (written.number, mapped) {
-            (0, Some(mapped)) => mapped,
-            _ => {
-                let refusal = blamed(
-                    &written,
-                    (lower.path(&before), images[0]),
-                    (path, images[1]),
-                );
-                return Err(Failure::Refused(refusal));
-            }
-        };
-        lower = Image::Between(mapped, written.length);
+        let length = written.map_err(|why| {
+            let lower = (lower.path(&before), images[0]);
+            Failure::Refused(blamed(why, lower, (path, images[1])))
+        })?;
+        let mapped = mapped.ok_or_else(|| Failure::changed(path))?;
+        lower = Image::Between(mapped, length);
         before = path.clone();
     }
     match lower {

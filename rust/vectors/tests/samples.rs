@@ -3,16 +3,16 @@
 
 mod support;
 
-use anhkhovet::Located;
+use anhkhovet::raw::{self, Located};
 use plain::{ABSENT, PACKED, STORED, ZERO};
 use support::disk::{bytes, path, text, Extent, Reader, SECTOR};
 use support::map::{runs, Run};
 use support::raw::Raw;
 
 /// The records of a descriptor.
-fn records_of(text: &[u8]) -> Vec<anhkhovet::Extent> {
-    let mut records = vec![anhkhovet::Extent::default(); 32];
-    let described = anhkhovet::descriptor(text, &mut records);
+fn records_of(text: &[u8]) -> Vec<raw::Extent> {
+    let mut records = vec![raw::Extent::default(); 32];
+    let described = raw::descriptor(text, &mut records);
     assert_eq!(described.number, 0);
     records.truncate(described.extents as usize);
     records
@@ -29,16 +29,12 @@ fn described(name: &str) -> Vec<Extent> {
         let extent = Extent::new(&[String::from_utf8(file).unwrap()]);
         assert_eq!(extent.sectors, record.sectors, "{name}");
         for sector in [record.first, record.first + record.sectors - 1] {
-            assert_eq!(
-                anhkhovet::find(&records, sector).extent,
-                number as u64,
-                "{name}"
-            );
+            assert_eq!(raw::find(&records, sector).extent, number as u64, "{name}");
         }
         extents.push(extent);
     }
     let end = extents.iter().map(|extent| extent.sectors).sum();
-    assert_eq!(anhkhovet::find(&records, end).number, 20, "{name}");
+    assert_eq!(raw::find(&records, end).number, 20, "{name}");
     extents
 }
 
@@ -150,14 +146,14 @@ fn collapsed_chains() {
     for (name, under, counts) in DISKS {
         let layers: Vec<Vec<u8>> = files(name, under).iter().map(|file| bytes(file)).collect();
         if counts[PACKED as usize] > 0 || name.starts_with("stream") {
-            assert_eq!(anhkhovet::normal(&layers[0], &mut []).number, 23, "{name}");
+            assert_eq!(raw::normal(&layers[0], &mut []).number, 23, "{name}");
             continue;
         }
         let mut out = vec![0; 1 << 20];
-        let written = anhkhovet::normal(&layers[0], &mut out);
+        let written = raw::normal(&layers[0], &mut out);
         let mut one = out[..written.length as usize].to_vec();
         for upper in &layers[1..] {
-            let written = anhkhovet::collapse(&one, upper, &mut out);
+            let written = raw::collapse(&one, upper, &mut out);
             assert_eq!(written.number, 0, "{name}");
             one = out[..written.length as usize].to_vec();
         }
@@ -174,11 +170,11 @@ fn collapsed_chains() {
 fn descriptors() {
     for (name, _, _) in DISKS {
         let image = bytes(&format!("{name}.vmdk"));
-        let head = anhkhovet::header(&image);
+        let head = raw::header(&image);
         let from = head.descriptor * SECTOR;
         let area = &image[from as usize..(from + head.descriptor_sectors * SECTOR) as usize];
         if name == "vmdkstream" {
-            assert_eq!(anhkhovet::descriptor(area, &mut []).number, 30, "{name}");
+            assert_eq!(raw::descriptor(area, &mut []).number, 30, "{name}");
         } else {
             let sectors: Vec<u64> = records_of(area)
                 .iter()

@@ -1,7 +1,7 @@
 //! A sample disk, looked up and read through the proved library.
 
 use super::inflate::inflate;
-use anhkhovet::Located;
+use anhkhovet::raw::{self, Located};
 use plain::{PACKED, STORED};
 use std::fs;
 use std::path::PathBuf;
@@ -36,9 +36,9 @@ impl Extent {
 
     /// The chain of these images, each of which is accepted.
     pub fn of(layers: &[Vec<u8>]) -> Extent {
-        let sectors = anhkhovet::header(&layers[0]).capacity;
+        let sectors = raw::header(&layers[0]).capacity;
         for layer in layers {
-            let verdict = anhkhovet::check(layer);
+            let verdict = raw::check(layer);
             assert_eq!((verdict.number, verdict.capacity), (0, sectors));
         }
         Extent {
@@ -61,9 +61,9 @@ impl Extent {
 
     /// The chain's answer, which for one layer is the lookup's.
     pub fn look(&self, sector: u64) -> Located {
-        let located = anhkhovet::chain(&self.layers, &self.lengths, sector);
+        let located = raw::chain(&self.layers, &self.lengths, sector);
         if self.height() == 1 {
-            assert_eq!(located, anhkhovet::lookup(&self.layers, sector));
+            assert_eq!(located, raw::lookup(&self.layers, sector));
         }
         located
     }

@@ -1,0 +1,54 @@
+//! Whole images: the full check and the header.
+
+use crate::{raw, Refusal};
+
+/// What every layer of a disk has in common.
+#[derive(Clone, Copy, Debug, PartialEq, Eq, Hash)]
+pub struct Disk {
+    /// Sectors of the virtual disk, 1 to 2^31.
+    pub capacity: u64,
+    /// Sectors of a grain, a power of two, at most 2,048.
+    pub grain_size: u64,
+}
+
+/// What a header says.
+#[derive(Clone, Copy, Debug, PartialEq, Eq, Hash)]
+pub struct Header {
+    pub disk: Disk,
+    /// First sector of the descriptor inside the image, as the header names it: nothing says yet that it lies in the file.
+    pub descriptor: u64,
+    /// Sectors of the descriptor; both numbers are 0 where there is none.
+    pub descriptor_sectors: u64,
+}
+
+/// The full check of one image: every layout rule, over every sector.
+///
+/// Refusals: 1 to 12, the first that applies.
+///
+#[doc = concat!("```\n", include_str!("../examples/check.rs"), "```")]
+pub fn check(image: &[u8]) -> Result<Disk, Refusal> {
+    let verdict = raw::check(image);
+    Refusal::unless_zero(verdict.number, verdict.place)?;
+    Ok(Disk {
+        capacity: verdict.capacity,
+        grain_size: verdict.grain_size,
+    })
+}
+
+/// The header alone, and the footer where the header asks for one.
+///
+/// Refusals: 1 to 7, as the check has them.
+///
+#[doc = concat!("```\n", include_str!("../examples/header.rs"), "```")]
+pub fn header(image: &[u8]) -> Result<Header, Refusal> {
+    let head = raw::header(image);
+    Refusal::unless_zero(head.number, head.place)?;
+    Ok(Header {
+        disk: Disk {
+            capacity: head.capacity,
+            grain_size: head.grain_size,
+        },
+        descriptor: head.descriptor,
+        descriptor_sectors: head.descriptor_sectors,
+    })
+}

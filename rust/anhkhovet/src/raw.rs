@@ -1,0 +1,87 @@
+//! The calls with their answers as document 01's numbers: number 0 is an answer, and what does not apply is 0.
+//!
+//! Each `unsafe` below rests on the same ground: a slice's pointer and count describe memory that is lent for the call,
+//! shared or exclusive as the slice is, and the library keeps neither. Lent bytes stand still for the call, as Rust asks of every
+//! slice: a mapping of a file that another program writes is not such a slice.
+
+use crate::face;
+
+pub use face::{Described, Extent, Found, Head, Located, Part, Verdict, Written};
+
+/// The full check: refusals 1 to 12, or capacity and grain size.
+pub fn check(image: &[u8]) -> Verdict {
+    // SAFETY: see the top of the file.
+    unsafe { face::anhkhovet_check(image.as_ptr(), image.len()) }
+}
+
+/// The header alone: refusals 1 to 7.
+pub fn header(image: &[u8]) -> Head {
+    // SAFETY: see the top of the file.
+    unsafe { face::anhkhovet_header(image.as_ptr(), image.len()) }
+}
+
+/// Where virtual sector `sector` comes from.
+pub fn lookup(image: &[u8], sector: u64) -> Located {
+    // SAFETY: see the top of the file.
+    unsafe { face::anhkhovet_lookup(image.as_ptr(), image.len(), sector) }
+}
+
+/// Where virtual sector `sector` of a chain comes from: layers end to end, base first, and their lengths.
+pub fn chain(layers: &[u8], lengths: &[u64], sector: u64) -> Located {
+    // SAFETY: see the top of the file.
+    unsafe {
+        face::anhkhovet_chain(
+            layers.as_ptr(),
+            layers.len(),
+            lengths.as_ptr(),
+            lengths.len(),
+            sector,
+        )
+    }
+}
+
+/// The grain reader: 512 bytes of a stored sector, the payload of a packed grain, else an empty part.
+pub fn read_part(image: &[u8], sector: u64) -> Part {
+    // SAFETY: see the top of the file.
+    unsafe { face::anhkhovet_read(image.as_ptr(), image.len(), sector) }
+}
+
+/// Writes the normal form of an image over the start of `out`.
+pub fn normal(image: &[u8], out: &mut [u8]) -> Written {
+    // SAFETY: see the top of the file.
+    unsafe { face::anhkhovet_normal(image.as_ptr(), image.len(), out.as_mut_ptr(), out.len()) }
+}
+
+/// Writes the collapse of two images over the start of `out`.
+pub fn collapse(lower: &[u8], upper: &[u8], out: &mut [u8]) -> Written {
+    // SAFETY: see the top of the file.
+    unsafe {
+        face::anhkhovet_collapse(
+            lower.as_ptr(),
+            lower.len(),
+            upper.as_ptr(),
+            upper.len(),
+            out.as_mut_ptr(),
+            out.len(),
+        )
+    }
+}
+
+/// Reads a descriptor and stores its extents at the start of the lent list.
+pub fn descriptor(text: &[u8], extents: &mut [Extent]) -> Described {
+    // SAFETY: see the top of the file.
+    unsafe {
+        face::anhkhovet_descriptor(
+            text.as_ptr(),
+            text.len(),
+            extents.as_mut_ptr(),
+            extents.len(),
+        )
+    }
+}
+
+/// The first record of the list that holds `sector`.
+pub fn find(extents: &[Extent], sector: u64) -> Found {
+    // SAFETY: see the top of the file.
+    unsafe { face::anhkhovet_find(extents.as_ptr(), extents.len(), sector) }
+}

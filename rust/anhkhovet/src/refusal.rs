@@ -1,0 +1,121 @@
+//! Why a call gives no answer.
+
+use std::error::Error;
+use std::fmt;
+
+/// A refusal by document 01's rules. Shown, it is its number, its place where that counts something, and a sentence.
+#[derive(Clone, Copy, Debug, PartialEq, Eq, Hash)]
+pub struct Refusal {
+    /// Document 01's number: 1 to 12 of an image, 20 to 24 of what is asked, 30 to 36 of a text.
+    pub number: u64,
+    /// The grain or the line at fault, as [`Refusal::counted`] says, else 0.
+    pub place: u64,
+}
+
+/// What a refusal's place counts.
+#[derive(Clone, Copy, Debug, PartialEq, Eq)]
+pub enum Counted {
+    /// Grains of the image, from 0.
+    Grain,
+    /// Lines of the text, from 1.
+    Line,
+    /// The place is 0 and says nothing.
+    Nothing,
+}
+
+/// A refusal of a chain, and the layer that was met.
+#[derive(Clone, Copy, Debug, PartialEq, Eq, Hash)]
+pub struct ChainRefusal {
+    pub refusal: Refusal,
+    /// The layer, from 0 at the base; 0 also where the whole chain is refused.
+    pub layer: u64,
+}
+
+impl Refusal {
+    /// No refusal where the number is 0.
+    pub(crate) fn unless_zero(number: u64, place: u64) -> Result<(), Refusal> {
+        if number == 0 {
+            Ok(())
+        } else {
+            Err(Refusal { number, place })
+        }
+    }
+
+    /// What the place counts.
+    pub fn counted(&self) -> Counted {
+        match self.number {
+            9 | 10 => Counted::Grain,
+            32..=34 if self.place > 0 => Counted::Line,
+            _ => Counted::Nothing,
+        }
+    }
+
+    /// What the number means, in words.
+    pub fn sentence(&self) -> &'static str {
+        match self.number {
+            1 => "the file is too short to hold a header",
+            2 => "the file begins with neither KDMV nor COWD, so it is no sparse image",
+            3 => "the header has a version that is not known",
+            4 => "the header's newline bytes are damaged, as by a copy in text mode",
+            5 => "the header's flags, compression and directory sector do not fit together",
+            6 => "the header's capacity, grain size or number of entries is not allowed",
+            7 => "the file needs a footer, and its last sectors are not a right one",
+            8 => "the descriptor, a directory or a table does not lie inside the file",
+            9 => "the grain runs past the end of the file",
+            10 => "the packed grain's marker names another sector or has size 0",
+            11 => "the redundant directory and its tables are not equal to the primary ones",
+            12 => "two areas of the file share a sector",
+            20 => "the sector is at or past the end of the disk",
+            21 => "the output is too short for the result",
+            22 => "the images do not have the same capacity and grain size",
+            23 => "a COWD or compressed image can be neither collapsed nor brought to normal form",
+            24 => "a chain has 1 to 16 layers",
+            30 => "the first line is not \"# Disk DescriptorFile\"",
+            31 => "there is text after a zero byte",
+            32 => "the line is neither an extent nor of the form key = value",
+            33 if self.place > 0 => {
+                "this line's key is there twice or has a value of the wrong form"
+            }
+            33 => "version, CID, parentCID or createType is missing",
+            34 => "the extent line has a field missing, wrong or too many",
+            35 => "there is no extent, or more than 32, or their sectors add up to over 2^31",
+            36 => "the descriptor is longer than 65,536 bytes",
+            _ => "a rule of the format is broken",
+        }
+    }
+}
+
+impl ChainRefusal {
+    /// The layer at fault; none where the whole chain is refused.
+    pub fn layer_at_fault(&self) -> Option<u64> {
+        match self.refusal.number {
+            20 | 22 | 24 => None,
+            _ => Some(self.layer),
+        }
+    }
+}
+
+impl fmt::Display for Refusal {
+    fn fmt(&self, to: &mut fmt::Formatter) -> fmt::Result {
+        write!(to, "refused {}", self.number)?;
+        match self.counted() {
+            Counted::Grain => write!(to, " at grain {}", self.place)?,
+            Counted::Line => write!(to, " at line {}", self.place)?,
+            Counted::Nothing => {}
+        }
+        write!(to, ": {}", self.sentence())
+    }
+}
+
+impl fmt::Display for ChainRefusal {
+    fn fmt(&self, to: &mut fmt::Formatter) -> fmt::Result {
+        if let Some(layer) = self.layer_at_fault() {
+            write!(to, "layer {layer}: ")?;
+        }
+        self.refusal.fmt(to)
+    }
+}
+
+impl Error for Refusal {}
+
+impl Error for ChainRefusal {}

@@ -1,0 +1,93 @@
+//! Single sectors: where they come from, and their bytes.
+
+use crate::{raw, ChainRefusal, Refusal};
+use std::ops::Range;
+
+/// Where a virtual sector comes from, inside one image.
+#[derive(Clone, Copy, Debug, PartialEq, Eq, Hash)]
+pub enum Source {
+    /// The image says nothing: its parent is asked, and without one the sector reads as zeros.
+    Absent,
+    /// It reads as zeros, whatever a parent has.
+    Zero,
+    /// It stands at this sector of the file.
+    Stored { sector: u64 },
+    /// It is in a grain that is packed: a marker of 12 bytes at this sector of the file, then `size` bytes, which unpacked are
+    /// the whole grain. The sector is number `offset` of the grain.
+    Packed { sector: u64, size: u64, offset: u64 },
+}
+
+/// Where a virtual sector comes from, inside a chain.
+#[derive(Clone, Copy, Debug, PartialEq, Eq, Hash)]
+pub struct Located {
+    /// The layer, from 0 at the base.
+    pub layer: u64,
+    pub source: Source,
+}
+
+impl Source {
+    fn of(located: &raw::Located) -> Source {
+        let sector = located.sector;
+        match located.kind {
+            0 => Source::Absent,
+            1 => Source::Zero,
+            2 => Source::Stored { sector },
+            3 => Source::Packed {
+                sector,
+                size: located.size,
+                offset: located.offset,
+            },
+            kind => unreachable!("the library's contract has no kind {kind}"),
+        }
+    }
+}
+
+/// Where virtual sector `sector` of one image comes from.
+///
+/// Judged is what the answer needs: the header, the directory's place, and the table and the grain that the sector leads to. So
+/// an image that [`check`](crate::check) refuses may have answers here; in an accepted one every sector below capacity has one.
+///
+/// Refusals: 1 to 7, 20, 8, 9, 10, in this order.
+///
+#[doc = concat!("```\n", include_str!("../examples/lookup.rs"), "```")]
+pub fn lookup(image: &[u8], sector: u64) -> Result<Source, Refusal> {
+    let located = raw::lookup(image, sector);
+    Refusal::unless_zero(located.number, located.place)?;
+    Ok(Source::of(&located))
+}
+
+/// Where virtual sector `sector` of a chain comes from: the topmost layer in which it is not absent, else layer 0 and absent.
+///
+/// `layers` has 1 to 16 images end to end, base first, and `lengths` their lengths in bytes.
+///
+/// Refusals: 24 for the count or the lengths; then each header from the top down, 1 to 7; 22 where the layers are not of one
+/// capacity and grain size; 20; then 8 to 10 of each layer that is met on the way down.
+///
+#[doc = concat!("```\n", include_str!("../examples/chain.rs"), "```")]
+pub fn chain(layers: &[u8], lengths: &[u64], sector: u64) -> Result<Located, ChainRefusal> {
+    let located = raw::chain(layers, lengths, sector);
+    let layer = located.layer;
+    Refusal::unless_zero(located.number, located.place)
+        .map_err(|refusal| ChainRefusal { refusal, layer })?;
+    Ok(Located {
+        layer,
+        source: Source::of(&located),
+    })
+}
+
+/// The bytes behind a sector's source, as a part of the image: 512 of a stored sector, the payload of a packed grain, none where
+/// it is absent, zero or refused, which [`lookup`] tells apart.
+///
+#[doc = concat!("```\n", include_str!("../examples/read.rs"), "```")]
+pub fn read(image: &[u8], sector: u64) -> &[u8] {
+    &image[read_part(image, sector)]
+}
+
+/// The place, in bytes of the image, of what [`read`] hands over.
+///
+/// It does not depend on those bytes: they may be other ones in the image that is asked, and be read from elsewhere.
+pub fn read_part(image: &[u8], sector: u64) -> Range<usize> {
+    let part = raw::read_part(image, sector);
+    let from = part.at as usize;
+    from..from + part.length as usize
+}

@@ -1,0 +1,31 @@
+//! Images that are written into lent memory.
+
+use crate::{raw, Refusal};
+
+/// Writes an image's normal form over the start of `out`, and says how many bytes it has. The bytes after it keep what they held;
+/// after a refusal all do.
+///
+/// Two images that read alike, grain by grain and kind by kind, have the same normal form.
+///
+/// Refusals: 1 to 12 as the check has them, 23 for COWD and packed images, 21 where `out` is too short.
+///
+#[doc = concat!("```\n", include_str!("../examples/normal.rs"), "```")]
+pub fn normal(image: &[u8], out: &mut [u8]) -> Result<u64, Refusal> {
+    length(raw::normal(image, out))
+}
+
+/// Writes one image that reads as `upper` on top of `lower` does, in normal form, over the start of `out`, and says how many
+/// bytes it has. The bytes after it keep what they held; after a refusal all do.
+///
+/// Refusals: 1 to 12 of `lower`, then of `upper`, as the check has them; 23 for COWD and packed images; 22 where the two are
+/// not of one capacity and grain size; 21 where `out` is too short.
+///
+#[doc = concat!("```\n", include_str!("../examples/collapse.rs"), "```")]
+pub fn collapse(lower: &[u8], upper: &[u8], out: &mut [u8]) -> Result<u64, Refusal> {
+    length(raw::collapse(lower, upper, out))
+}
+
+fn length(written: raw::Written) -> Result<u64, Refusal> {
+    Refusal::unless_zero(written.number, written.place)?;
+    Ok(written.length)
+}

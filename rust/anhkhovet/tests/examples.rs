@@ -1,0 +1,37 @@
+//! The examples of the documentation, run as tests: cargo runs no examples of documentation in a build for another machine's
+//! code, as that on Arm is.
+
+macro_rules! examples {
+    ($($name:ident $file:literal)*) => {
+        $(mod $name {
+            include!(concat!("../examples/", $file));
+
+            #[test]
+            fn example() {
+                main().unwrap();
+            }
+        })*
+
+        /// No example is left out.
+        #[test]
+        fn all_examples() {
+            let mut stored: Vec<_> = std::fs::read_dir("examples")
+                .unwrap()
+                .map(|entry| entry.unwrap().file_name().into_string().unwrap())
+                .collect();
+            stored.sort();
+            assert_eq!(stored, [$($file),*]);
+        }
+    };
+}
+
+examples! {
+    chain "chain.rs"
+    check "check.rs"
+    collapse "collapse.rs"
+    descriptor "descriptor.rs"
+    header "header.rs"
+    lookup "lookup.rs"
+    normal "normal.rs"
+    read "read.rs"
+}
