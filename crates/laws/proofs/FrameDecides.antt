@@ -38,7 +38,8 @@ use Rattle.laws.proofs.UsedChain.{used-chain}
 use Rattle.laws.proofs.UsedCollapse.{used-collapse, used-normal}
 
 -- ---- an image that has a frame has a header
-listed-known : (s : List ℕ) (room count : ℕ) (a : HeaderAnswer) → frameFrom s room a ≡ Listed count → (h : Header) × (a ≡ Known h)
+listed-known : (s : List ℕ) (room count : ℕ) (a : HeaderAnswer) → frameFrom s room a ≡ Listed count
+    → (h : Header) × (a ≡ Known h)
 unfolding frameFrom
 listed-known s room count (unknown r) e = let z : _≡_ {A = ℕ} 0 1 = cc in absurd (omega arith)
 listed-known s room count (Known h) e = (h, refl)
