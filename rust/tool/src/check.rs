@@ -9,9 +9,9 @@ use serde_json::{json, Value};
 use std::path::{Path, PathBuf};
 
 fn one(path: &Path) -> Result<Disk, Failure> {
-    let layers = Layers::one(path)?.scattered();
+    let mut layers = Layers::one(path)?;
     let _progress = Progress::start(&format!("checking {}", path.display()), 0);
-    let verdict = anhkhovet::check(layers.bytes(0));
+    let verdict = layers.ask(0, anhkhovet::check)?;
     layers.same()?;
     verdict.map_err(Failure::refused(path))
 }

@@ -8,14 +8,19 @@ use serde_json::{json, Value};
 use std::ops::Range;
 use std::path::Path;
 
+/// A text that is longer than document 01 allows is refused for that before all else: no more of it is read.
+const LONGEST: u64 = 65_536;
+
 /// The text: the whole file, or the part of an image that its header names.
-fn text<'a>(layers: &'a Layers, path: &Path) -> Result<(&'a [u8], bool), Failure> {
+fn text(layers: &Layers, path: &Path) -> Result<(Vec<u8>, bool), Failure> {
     let image = layers.bytes(0);
+    let read = |from: u64, end: u64| layers.part(0, from..end.min(from + LONGEST + 1));
+    let alone = || Ok((read(0, image.len() as u64)?, false));
     let head = match anhkhovet::header(image) {
         Ok(head) => head,
         // No magic at all: not an image, so it is taken for text.
-        Err(Refusal { number: 2, .. }) => return Ok((image, false)),
-        Err(Refusal { number: 1, .. }) if image.len() < 4 => return Ok((image, false)),
+        Err(Refusal { number: 2, .. }) => return alone(),
+        Err(Refusal { number: 1, .. }) if image.len() < 4 => return alone(),
         Err(refusal) => return Err(Failure::refused(path)(refusal)),
     };
     if head.descriptor == 0 && head.descriptor_sectors == 0 {
@@ -29,7 +34,7 @@ fn text<'a>(layers: &'a Layers, path: &Path) -> Result<(&'a [u8], bool), Failure
     let whole = image.len() as u64 / SECTOR * SECTOR;
     match (from, end) {
         (Some(from), Some(end)) if 0 < from && from < end && end <= whole => {
-            Ok((&image[from as usize..end as usize], true))
+            Ok((read(from, end)?, true))
         }
         // The check judges the descriptor's place first of all places, and tells how.
         _ => match anhkhovet::check(image) {
@@ -106,7 +111,7 @@ fn lines(text: &[u8], said: &Descriptor, embedded: bool) -> String {
 pub fn describe(path: &Path, sector: Option<u64>, json: bool) -> Result<(), Failure> {
     let layers = Layers::one(path)?;
     let (text, embedded) = text(&layers, path)?;
-    let said = anhkhovet::descriptor(text);
+    let said = anhkhovet::descriptor(&text);
     layers.same()?;
     let said = said.map_err(Failure::refused(path))?;
     let held = match sector {
@@ -116,9 +121,10 @@ pub fn describe(path: &Path, sector: Option<u64>, json: bool) -> Result<(), Fail
             Some((sector, found.map_err(Failure::refused(path))?))
         }
     };
-    // The text is read once more for its names: what is told is looked at before.
-    let (mut told, mut value) = (lines(text, &said, embedded), object(text, &said, embedded));
-    layers.same()?;
+    let (mut told, mut value) = (
+        lines(&text, &said, embedded),
+        object(&text, &said, embedded),
+    );
     if let Some((sector, extent)) = held {
         told += &format!("sector {sector}: extent {extent}\n");
         value["sector"] = json!({ "sector": sector, "extent": extent });

@@ -68,8 +68,8 @@ fn difference(listed: &Line, found: &Line) -> Option<String> {
 }
 
 pub fn compare(paths: &[PathBuf], grains: bool, list: &Path, json: bool) -> Result<(), Failure> {
-    let layers = Layers::open(paths)?;
-    let mut digests = Digests::of(&layers)?;
+    let mut layers = Layers::open(paths)?;
+    let mut digests = Digests::of(&mut layers)?;
     let file = File::open(list).map_err(Failure::system(list, "cannot be opened"))?;
     let progress = Progress::start("comparing", 0);
     let mut compared = 0u64;
@@ -97,7 +97,7 @@ pub fn compare(paths: &[PathBuf], grains: bool, list: &Path, json: bool) -> Resu
         }
         let found = digests.line(listed.sector, grains)?;
         if let Some(how) = difference(&listed, &found) {
-            layers.same()?;
+            digests.same()?;
             return Err(Failure::Differs(format!(
                 "{}: line {at}: {how}",
                 list.display()
@@ -106,7 +106,7 @@ pub fn compare(paths: &[PathBuf], grains: bool, list: &Path, json: bool) -> Resu
         compared += 1;
     }
     drop(progress);
-    layers.same()?;
+    digests.same()?;
     if compared == 0 {
         return Err(Failure::unfit(list, "has no line to compare with"));
     }

@@ -4,14 +4,19 @@
 
 mod check;
 mod cli;
+mod cores;
 mod describe;
 mod digest;
 mod failure;
 mod files;
+mod frame;
 mod guard;
+mod hash;
+mod layer;
 mod list;
 mod map;
 mod output;
+mod own;
 mod print;
 mod progress;
 mod sector;

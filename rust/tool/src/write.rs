@@ -3,9 +3,11 @@
 use crate::cli::Target;
 use crate::failure::{name, Failure, Refusal};
 use crate::files::{unlike, Layers};
+use crate::guard::Watch;
 use crate::output::{Mapped, Output};
 use crate::print;
 use crate::progress::Progress;
+use crate::span::Span;
 use anhkhovet::{Disk, SECTOR};
 use serde_json::json;
 use std::path::{Path, PathBuf};
@@ -35,16 +37,49 @@ fn up(number: u64, by: u64) -> u64 {
     (number + by - 1) / by
 }
 
+/// A file, mapped: its grains are not among the tool's own bytes.
+struct Live {
+    layers: Layers,
+    span: Span,
+    _watch: Watch,
+}
+
+impl Live {
+    fn open(path: &Path) -> Result<Live, Failure> {
+        let layers = Layers::one(path)?;
+        let length = layers.bytes(0).len();
+        let span = Span::of(&[(layers.file(0), length as u64)], length)
+            .map_err(|(_, error)| Failure::System(path.to_path_buf(), "cannot be mapped", error))?;
+        let cut =
+            "the file was cut while it was read, or cannot be read there, so there is no answer";
+        let told = Failure::unfit(path, cut).to_string();
+        let watch = Watch::new(span.bytes().as_ptr(), length, &told);
+        Ok(Live {
+            layers,
+            span,
+            _watch: watch,
+        })
+    }
+
+    fn bytes(&self) -> &[u8] {
+        self.span.bytes()
+    }
+
+    fn same(&self) -> Result<(), Failure> {
+        self.layers.same()
+    }
+}
+
 /// One image to collapse: a file, or what was collapsed before and is not yet under its name.
 enum Image {
-    File(Layers),
+    File(Live),
     Between(Mapped, u64),
 }
 
 impl Image {
     fn bytes(&self) -> &[u8] {
         match self {
-            Image::File(file) => file.bytes(0),
+            Image::File(file) => file.bytes(),
             Image::Between(mapped, length) => &mapped.bytes()[..*length as usize],
         }
     }
@@ -52,7 +87,7 @@ impl Image {
     /// What was collapsed before is told by what it was made of.
     fn path<'a>(&'a self, before: &'a Path) -> &'a Path {
         match self {
-            Image::File(file) => file.path(0),
+            Image::File(file) => file.layers.path(0),
             Image::Between(..) => before,
         }
     }
@@ -113,8 +148,8 @@ fn told(target: &Target, length: u64, json: bool) -> Result<(), Failure> {
 }
 
 pub fn normal(path: &Path, target: &Target, json: bool) -> Result<(), Failure> {
-    let layers = Layers::one(path)?;
-    let image = layers.bytes(0);
+    let layers = Live::open(path)?;
+    let image = layers.bytes();
     let progress = Progress::start("writing the normal form", 0);
     let (written, mapped) = lend(target, &[image], |out| anhkhovet::normal(image, out))?;
     layers.same()?;
@@ -130,12 +165,12 @@ pub fn collapse(paths: &[PathBuf], target: &Target, json: bool) -> Result<(), Fa
     let progress = Progress::start("collapsing", 0);
     let mut inputs = paths.iter();
     let first = inputs.next().ok_or(Failure::Told)?;
-    let mut lower = Image::File(Layers::one(first)?);
+    let mut lower = Image::File(Live::open(first)?);
     // The layers that the lower image stands for, told where it is refused.
     let mut before = first.clone();
     for path in inputs {
-        let upper = Layers::one(path)?;
-        let images = [lower.bytes(), upper.bytes(0)];
+        let upper = Live::open(path)?;
+        let images = [lower.bytes(), upper.bytes()];
         let (written, mapped) = lend(target, &images, |out| {
             anhkhovet::collapse(images[0], images[1], out)
         })?;
