@@ -13,6 +13,15 @@
 //! Words: a *sector* is 512 bytes. An image stores its disk in *grains* of some sectors each; an *entry* of a *table* says where a
 //! grain is, and an entry of the *directory* where a table is.
 //!
+//! # Stack
+//!
+//! Three calls keep a mark for each of some eight million sectors on the stack: [`check`], and [`normal`] and [`collapse`], which
+//! check. A thread that makes one of them needs [`STACK`] bytes for it beside what it uses itself, or the process ends at the
+//! guard below its stack, with nothing overwritten. A main thread has 8 MiB unless `ulimit -s` says less, and a thread of
+//! Rust's 2 MiB unless it is asked for less. Every other call does with less than 16 KiB, and none of them calls itself.
+//!
+//! # The archive
+//!
 //! The archive of the library holds x86-64 code. Where it stands is told in `rust/README.md`.
 
 mod face;
@@ -31,3 +40,8 @@ pub use writing::{collapse, normal};
 
 /// Bytes of a sector.
 pub const SECTOR: u64 = 512;
+
+/// Bytes of stack that are enough for any call: 1 MiB of marks, and room for what stands beside them.
+///
+#[doc = concat!("```\n", include_str!("../examples/stack.rs"), "```")]
+pub const STACK: usize = (1 << 20) + (1 << 16);

@@ -34,4 +34,5 @@ examples! {
     lookup "lookup.rs"
     normal "normal.rs"
     read "read.rs"
+    stack "stack.rs"
 }
