@@ -4,7 +4,7 @@
 //! what breaks a rule is a [`Refusal`], never a fault. What each call answers is document 01's and is proved in `crates/`; the
 //! calls of [`raw`] give the same answers as plain numbers, with no list of their own.
 //!
-//! - [`check`] judges a whole image, [`header`] its header alone.
+//! - [`check`] judges a whole image, [`header`] its header alone; [`frame`] lists what of it is no grain.
 //! - [`lookup`] says where a sector comes from, [`chain`] the same for layers on top of each other, and [`read`] hands over
 //!   its bytes.
 //! - [`normal`] and [`collapse`] write an image into memory that is lent.
@@ -25,6 +25,7 @@
 //! The archive of the library holds x86-64 code. Where it stands is told in `rust/README.md`.
 
 mod face;
+mod frame;
 mod images;
 pub mod raw;
 mod refusal;
@@ -32,6 +33,7 @@ mod sectors;
 mod texts;
 mod writing;
 
+pub use frame::{frame, Area, Group};
 pub use images::{check, header, Disk, Header};
 pub use refusal::{ChainRefusal, Counted, Refusal};
 pub use sectors::{chain, lookup, read, read_part, Located, Source};

@@ -6,7 +6,7 @@
 
 use crate::face;
 
-pub use face::{Described, Extent, Found, Head, Located, Part, Verdict, Written};
+pub use face::{Described, Extent, Found, Framed, Head, Located, Part, Verdict, Written};
 
 /// The full check: refusals 1 to 12, or capacity and grain size.
 ///
@@ -46,6 +46,12 @@ pub fn chain(layers: &[u8], lengths: &[u64], sector: u64) -> Located {
 pub fn read_part(image: &[u8], sector: u64) -> Part {
     // SAFETY: see the top of the file.
     unsafe { face::anhkhovet_read(image.as_ptr(), image.len(), sector) }
+}
+
+/// Tells the areas of an image but its grains, three words each, over the start of `list`.
+pub fn frame(image: &[u8], list: &mut [u64]) -> Framed {
+    // SAFETY: see the top of the file.
+    unsafe { face::anhkhovet_frame(image.as_ptr(), image.len(), list.as_mut_ptr(), list.len()) }
 }
 
 /// Writes the normal form of an image over the start of `out`.

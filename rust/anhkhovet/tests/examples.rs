@@ -30,6 +30,7 @@ examples! {
     check "check.rs"
     collapse "collapse.rs"
     descriptor "descriptor.rs"
+    frame "frame.rs"
     header "header.rs"
     lookup "lookup.rs"
     normal "normal.rs"

@@ -1,6 +1,8 @@
 //! Each call on a thread with the stack that the documentation states, and images that all of them go through to the end.
 
-use anhkhovet::{chain, check, collapse, descriptor, find, header, lookup, normal, read, STACK};
+use anhkhovet::{
+    chain, check, collapse, descriptor, find, frame, header, lookup, normal, read, STACK,
+};
 use std::{fs, thread};
 
 /// What the documentation states for the calls that do not check.
@@ -35,6 +37,7 @@ fn calls_on_sectors() {
     let images = ["tool-base", "tool-packed", "vmdkstream", "cowd-s001"].map(sample);
     on(LITTLE, move || {
         for image in &images {
+            assert!(frame(image).is_ok());
             let sectors = header(image).unwrap().disk.capacity;
             let found = (0..sectors).filter(|sector| lookup(image, *sector).is_ok());
             assert_eq!(found.count() as u64, sectors);
