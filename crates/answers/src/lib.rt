@@ -1,9 +1,11 @@
 // Answers in document 01's numbers, for whoever prints them or hands them on.
 ghost use mathlib.Core.Path.{_≡_};
-ghost use Rattle.format.specs.Answers.{number, place, headerNumbers, verdict, served, unserved, located, chained, written};
+ghost use Rattle.format.specs.Answers.{number, place, headerNumbers, verdict, served, unserved, located, chained, written, framed};
 use format::ChainAnswer;
 use format::CheckAnswer;
 use format::CollapseAnswer;
+use format::FrameAnswer;
+use format::Framed;
 use format::Head;
 use format::HeaderAnswer;
 use format::Located;
@@ -172,6 +174,26 @@ pub fn written_of(a: CollapseAnswer) -> Written
                 number: told.0,
                 place: told.1,
                 length: 0,
+            }
+        }
+    }
+}
+
+pub fn framed_of(a: FrameAnswer) -> Framed
+    ensures { λ r. ⌜ r ≡ framed a ⌝ }
+{
+    match a {
+        FrameAnswer::Listed(count) => Framed {
+            number: 0,
+            place: 0,
+            count,
+        },
+        FrameAnswer::Refused(refusal) => {
+            let told = numbers_of(refusal);
+            Framed {
+                number: told.0,
+                place: told.1,
+                count: 0,
             }
         }
     }

@@ -14,6 +14,7 @@ use Rattle.exports.proofs.anhkhovet_header as header
 use Rattle.exports.proofs.anhkhovet_lookup as lookup
 use Rattle.exports.proofs.anhkhovet_chain as chain
 use Rattle.exports.proofs.anhkhovet_read as read
+use Rattle.exports.proofs.anhkhovet_frame as frame
 use Rattle.exports.proofs.anhkhovet_normal as normal
 use Rattle.exports.proofs.anhkhovet_collapse as collapse
 use Rattle.exports.proofs.extents.anhkhovet_descriptor as descriptor
@@ -96,7 +97,7 @@ module _ (T : Ended) where
           fact-use 𝓤 ψ (snd∗ 𝓤 (fact 𝓤 φ) (fact 𝓤 ψ)) (λ o. via 𝓤 (fact 𝓤 φ) (fst∗ 𝓤 (fact 𝓤 φ) (fact 𝓤 ψ))
           (fact-mono 𝓤 φ (φ × (ws ≡ last κs a)) (λ e. (e, follows κs a ws o)))))
 
--- ---- the nine calls: each `_` is what the contract itself says
+-- ---- the ten calls: each `_` is what the contract itself says
 pub check-determined : Determined check.ended (λ M. check.spec)
 check-determined = answered check.ended _ (λ κs a. (tt, tt)) (λ κs a ws. refl)
 
@@ -114,6 +115,10 @@ read-determined = answered read.ended _ (λ κs a. (tt, (tt, tt))) (λ κs a ws.
 
 pub find-determined : Determined find.ended (λ M. find.spec)
 find-determined = answered find.ended _ (λ κs a. (tt, (tt, tt))) (λ κs a ws. refl)
+
+pub frame-determined : Determined frame.ended (λ M. frame.spec)
+frame-determined =
+    written-apart frame.ended _ _ _ (λ κs e. now (e .1 .0)) (λ κs a x. (tt, (x, tt))) (λ κs a ws. refl)
 
 pub normal-determined : Determined normal.ended (λ M. normal.spec)
 normal-determined =

@@ -3,10 +3,12 @@ ghost use mathlib.Core.Path.{_≡_};
 ghost use lib.ListN.{length};
 ghost use Rattle.format.specs.Header.{judge};
 ghost use Rattle.format.specs.Check.{check};
+ghost use Rattle.format.specs.Frame.{frame, frameList};
 ghost use Rattle.format.specs.Source.{sectorLookup, answerPart};
 ghost use Rattle.format.specs.Chain.{chainLookup};
 ghost use Rattle.format.specs.Collapse.{normal, normalOutput, collapse, collapseOutput};
-ghost use Rattle.format.specs.Answers.{headerNumbers, verdict, located, chained, written};
+ghost use Rattle.format.specs.Answers.{headerNumbers, verdict, located, chained, written, framed};
+use format::Framed;
 use format::Head;
 use format::Located;
 use format::Part;
@@ -48,6 +50,14 @@ pub extern "C" fn anhkhovet_read(image: &[u8], sector: u64) -> Part
     ensures { λ r. ⌜ r ≡ answerPart (sectorLookup (now (image .entry)) sector) ⌝ }
 {
     reader::part(image, sector)
+}
+
+#[no_mangle]
+pub extern "C" fn anhkhovet_frame(image: &[u8], list: &mut [u64]) -> Framed
+    ensures { λ r. ⌜ r ≡ framed (frame (now (image .entry)) (length (now (list .entry)))) ⌝ }
+    ensures { λ r. ⌜ now (list .exit) ≡ frameList (now (image .entry)) (now (list .entry)) ⌝ }
+{
+    answers::framed_of(frame::frame(image, &mut *list))
 }
 
 #[no_mangle]

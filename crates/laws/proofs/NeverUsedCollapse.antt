@@ -7,39 +7,32 @@ use native.Mathlib.Omega.{arith}
 use lib.ListN.{length}
 use lib.Seq.{getD-drop}
 use Rattle.base.specs.Pick.{pick}
-use Rattle.base.proofs.Steps.{or-no, pick-both}
 use Rattle.format.specs.Geometry.{fileSectors}
 use Rattle.format.specs.Header.{headerOf, grainsOf}
 use Rattle.format.specs.Entries.{grainEntry, grainSectors}
 use Rattle.format.specs.Areas.{named, runsPast}
-use Rattle.format.specs.Check.{grainPast, checkFrom, check}
-use Rattle.format.specs.Grains.{stored, merge, grainFrom}
-use Rattle.format.specs.Layout.{layoutLength}
-use Rattle.format.specs.Collapse.{mapOf, collapsed, ifAccepted, notCollapsible, writtenIfRoom, normal}
-use Rattle.format.specs.Collapse.{collapseFrom, collapse, output, normalOutput, collapseOutput}
+use Rattle.format.specs.Check.{grainPast, checkFrom}
+use Rattle.format.specs.Grains.{stored, grainFrom}
+use Rattle.format.specs.Collapse.{mapOf, collapsed, normal}
+use Rattle.format.specs.Collapse.{collapse, output, normalOutput, collapseOutput}
 use Rattle.format.specs.declared.Entry.{Entry}
 use Rattle.format.specs.declared.Entry.the-variants.{Absent, Zero, Sector}
-use Rattle.format.specs.declared.CheckAnswer.{CheckAnswer}
-use Rattle.format.specs.declared.CheckAnswer.the-variants.{Accepted, Refused as unaccepted}
 use Rattle.format.specs.declared.CollapseAnswer.{CollapseAnswer}
 use Rattle.format.specs.declared.CollapseAnswer.the-variants.{Written, Refused}
 use Rattle.format.proofs.Inside.{named-in}
 use Rattle.format.proofs.Grains.{clip-same}
 use Rattle.format.proofs.LowestGrain.{none-lowest}
 use Rattle.format.proofs.Passed.{layout-passed}
-use Rattle.format.proofs.LayersAt.{alike}
-use Rattle.format.proofs.Places.{places-kept}
-use Rattle.laws.proofs.Unused.{entry-same}
 use Rattle.laws.specs.Layers.{Layer, SameGrains}
 use Rattle.laws.specs.NeverUsed.{SameSectors}
 use Rattle.laws.proofs.ServedSectors.{accepted-good}
 use Rattle.laws.proofs.CollapsedMaps.{layout-same}
 use Rattle.laws.proofs.CollapsedLayers.{layer-accepted, capacity-is, size-is, unpacked}
-use Rattle.laws.proofs.CollapsedImages.{collapsed-is, collapsed-length}
-use Rattle.laws.proofs.CollapsedAnswer.{own-layer, collapse-layers}
-use Rattle.laws.proofs.CollapsedSelf.{collapse-self, collapse-self-output}
-use Rattle.laws.proofs.NeverUsed.{header-same}
-use Rattle.laws.proofs.NeverUsedCheck.{in-use, never-used-check}
+use Rattle.laws.proofs.CollapsedImages.{collapsed-is}
+use Rattle.laws.proofs.CollapsedAnswer.{collapse-layers}
+use Rattle.laws.proofs.CollapsedSelf.{collapse-self-output}
+use Rattle.laws.proofs.UsedCollapse.{entries-same, used-collapse, used-normal}
+use Rattle.laws.proofs.NeverUsed.{never-used, never-used-check}
 
 -- ---- a layer's map
 module _ (s t : List ℕ) (both : SameSectors s t) where
@@ -58,7 +51,7 @@ module _ (s t : List ℕ) (both : SameSectors s t) where
     layer-same : Layer c size t
     layer-same = record {
       accepted = sym (never-used-check s t both) ∙ p .accepted;
-      collapsible = rw (← header-same s t both) (p .collapsible);
+      collapsible = rw (← never-used s t both .header) (p .collapsible);
     }
 
     map-same : SameGrains c size (mapOf s) (mapOf t)
@@ -66,22 +59,13 @@ module _ (s t : List ℕ) (both : SameSectors s t) where
     map-same g l =
         let h = headerOf s in
         let good = accepted-good s (layer-accepted p) in
-        let sound = good .sound in
         let found = layout-passed s h c size (rw (good .known) at (p .accepted)) in
-        let placed = places-kept s h (found .places) in
         let used : g < grainsOf h = rw (capacity-is p, size-is p) l in
-        let same = entry-same s t h (sound .sizes .low) (sound .some) (in-use s t both h sound) placed g used in
         let inside = none-lowest (grainPast s h) (grainsOf h) (found .grains) g used in
-        rw (← header-same s t both, ← same)
+        rw (← never-used s t both .header, ← entries-same s t (never-used s t both) p g l)
         (grain-same (h .capacity) (h .«grain_size») g (grainEntry s h g) (rw (unpacked p) at inside))
 
 -- ---- what an answer leaves open
-if-same : (a : CheckAnswer) (x y : CollapseAnswer) → ((c size : ℕ) → a ≡ Accepted c size → x ≡ y)
-    → ifAccepted a x ≡ ifAccepted a y
-unfolding ifAccepted
-if-same (unaccepted r) x y f = refl
-if-same (Accepted c size) x y f = f c size refl
-
 output-same : (a : CollapseAnswer) (image other out : List ℕ) → ((long : ℕ) → a ≡ Written long → image ≡ other)
     → output a image out ≡ output a other out
 unfolding output
@@ -96,30 +80,8 @@ module _ (s t u v : List ℕ) (low : SameSectors s t) (up : SameSectors u v) whe
       ∙ layout-same c size _ _ (λ g h. rw (map-same s t low p g h, map-same u v up q g h))
       ∙ sym (collapsed-is (layer-same s t low p) (layer-same u v up q))
 
-  length-same : {c size : ℕ} → Layer c size s → Layer c size u
-      → layoutLength c size (merge (mapOf s) (mapOf u)) ≡ layoutLength c size (merge (mapOf t) (mapOf v))
-  length-same p q =
-      sym (collapsed-length p q)
-      ∙ ap length (collapsed-same p q)
-      ∙ collapsed-length (layer-same s t low p) (layer-same u v up q)
-
   pub never-used-collapse : (room : ℕ) → collapse s u room ≡ collapse t v room
-  unfolding collapseFrom
-  never-used-collapse room =
-      rw (← never-used-check s t low, ← never-used-check u v up, ← header-same s t low, ← header-same u v up)
-      (if-same (check s) _ _
-      (λ c size e.
-      if-same (check u) _ _
-      (λ d other f.
-      pick-both _≡_ _ _ _ _ _ (λ q. refl)
-      (λ n.
-      pick-both _≡_ _ _ _ _ _ (λ q. refl)
-      (λ m.
-      let both = or-no (notCollapsible (headerOf s)) (notCollapsible (headerOf u)) n in
-      let sizes = alike (headerOf s) (headerOf u) m in
-      let p = own-layer s c size e (both .0) in
-      let q = rw (← sizes .0, ← sizes .1) at (own-layer u d other f (both .1)) in
-      ap (writtenIfRoom room) (rw (← header-same s t low, ← header-same u v up) at (length-same p q)))))))
+  never-used-collapse = used-collapse s t u v (never-used s t low) (never-used u v up)
 
   pub never-used-collapse-output : (out : List ℕ) → collapseOutput s u out ≡ collapseOutput t v out
   never-used-collapse-output out =
@@ -130,7 +92,7 @@ module _ (s t u v : List ℕ) (low : SameSectors s t) (up : SameSectors u v) whe
 -- ---- normal form
 module _ (s t : List ℕ) (both : SameSectors s t) where
   pub never-used-normal : (room : ℕ) → normal s room ≡ normal t room
-  never-used-normal room = sym (collapse-self s room) ∙ never-used-collapse s t s t both both room ∙ collapse-self t room
+  never-used-normal = used-normal s t (never-used s t both)
 
   pub never-used-normal-output : (out : List ℕ) → normalOutput s out ≡ normalOutput t out
   never-used-normal-output out =

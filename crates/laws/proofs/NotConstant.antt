@@ -24,12 +24,14 @@ use Rattle.format.specs.Chain.{lengthsSum, unlike, ifKnown, headersDown, unless
 use Rattle.format.specs.Grains.{upperUnlessAbsent, grainFrom, oneIfStored, storedBelow}
 use Rattle.format.specs.Layout.{tableCount, tablesAt, tablesEnd, sectorV, layoutLength}
 use Rattle.format.specs.Collapse.{ifAccepted, writtenIfRoom, normalFrom, normal, collapseFrom, collapse}
-use Rattle.format.specs.Answers.{headerNumbers, verdict, located, chained, written}
+use Rattle.format.specs.Frame.{frameAreas, listedIfRoom, frameFrom, frame}
+use Rattle.format.specs.Answers.{headerNumbers, verdict, located, chained, written, framed}
 use Rattle.format.specs.declared.Head.{Head}
 use Rattle.format.specs.declared.Verdict.{Verdict}
 use Rattle.format.specs.declared.Located.{Located}
 use Rattle.format.specs.declared.Part.{Part}
 use Rattle.format.specs.declared.Written.{Written}
+use Rattle.format.specs.declared.Framed.{Framed}
 use Rattle.laws.specs.Images.{kdmvSector, small}
 use Rattle.descriptor.specs.declared.Described.{Described}
 use Rattle.descriptor.specs.declared.Extent.{Extent}
@@ -81,6 +83,12 @@ chain-varies r same =
     differ (λ s. chained (chainLookup s (length s ∷ []) 0)) (λ (v : Located). v .kind) (small 6 0 0 8) 2 (omega arith) refl refl
     r
     (λ s. same s (length s ∷ []) 0)
+
+-- header, directory and table, for which a list of nine words has room
+pub frame-varies : (r : Framed) → ((s : List ℕ) (room : ℕ) → r ≡ framed (frame s room)) → ⊥
+unfolding pick powerUpTo leAt leBytes sameAt zeros grains directoryEntries directorySectors kdmvFields kdmvFault kdmvHeader directoryOf unlessFault withFooter judgeKdmv judge rows meaning ifThere named redundantTables runsPast misplaced frameAreas listedIfRoom frameFrom
+frame-varies r same =
+    differ (λ s. framed (frame s 9)) (λ (v : Framed). v .count) (small 0 0 0 0) 3 (omega arith) refl refl r (λ s. same s 9)
 
 -- eight sectors are written, for which there is room
 pub normal-varies : (r : Written) → ((s : List ℕ) (room : ℕ) → r ≡ written (normal s room)) → ⊥

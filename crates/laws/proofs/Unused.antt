@@ -2,7 +2,7 @@
 -- the markers of packed grains are checked alike. Entries past the last grain are not judged.
 use Prim.Native.Nat.{ℕ, _+_, _/_, _%_, _≤_, _<_}
 use mathlib.Core.Path.{_≡_, refl, ap}
-use mathlib.Core.List.{List}
+use mathlib.Core.List.{List, _++_, append-assoc}
 use mathlib.Core.Bool.{Bool, true, false, _||_}
 use native.Mathlib.Omega.{arith}
 use native.Mathlib.Nat.{div-add-mod', mod-lt}
@@ -15,7 +15,9 @@ use Rattle.format.specs.Geometry.{fileSectors}
 use Rattle.format.specs.Header.{grainsOf, directoryEntriesOf}
 use Rattle.format.specs.Entries.{meaning, inTable, meaningAt, entryOfGrain, grainEntry, entriesInUse}
 use Rattle.format.specs.Entries.{grainSectors, markerBroken}
-use Rattle.format.specs.Areas.{Area, named, tableAreas, primaryTables, redundantTables, grainArea, areas, runsPast}
+use Rattle.format.specs.Areas.{Area, named, tableAreas, primaryTables, redundantTables, grainArea, grainAreas, areas}
+use Rattle.format.specs.Areas.{runsPast}
+use Rattle.format.specs.Frame.{frameAreas}
 use Rattle.format.specs.Check.{directoryMisplaced, redundantDirectoryMisplaced, entryDiffers, misplaced, grainPast}
 use Rattle.format.specs.Check.{markerBrokenAt, lowestPast, lowestBadMarker, copyDiffers, copiesDiffer, unlessGrain}
 use Rattle.format.specs.Check.{checkApart, checkCopies, checkGrains, checkLayout}
@@ -32,6 +34,11 @@ use Rattle.format.proofs.Inside.{table-in, named-in}
 use Rattle.format.proofs.LowestGrain.{none-lowest, lowest-same}
 use Rattle.format.proofs.Places.{Places, places-kept, primary-in, directory-in, redundant-in, redundant-tables}
 use Rattle.laws.specs.Unused.{SameEntries, SameTables, SameInUse}
+
+-- ---- all areas are the frame's and the grains'
+pub areas-frame : (s : List ℕ) (h : Header) → areas s h ≡ frameAreas s h ++ grainAreas s h
+unfolding areas frameAreas
+areas-frame s h = simp append-assoc
 
 -- ---- what is said of an entry differs only where it names a sector
 by-entry : {A : Type 0} (p q : Entry → A) → p Absent ≡ q Absent → p Zero ≡ q Zero → (d : Entry)
@@ -93,7 +100,7 @@ module _ (s t : List ℕ) (h : Header) (one : 1 ≤ h .«grain_size») (per : 1 
     tables-past-same i e =
         rw (tables-same s t h (h .directory) (same .primary) (directory-in (fileSectors s) h i), redundant-same e)
 
-    misplaced-same : misplaced s h ≡ misplaced t h
+    pub misplaced-same : misplaced s h ≡ misplaced t h
     unfolding misplaced
     misplaced-same =
         rw (← same .long)
@@ -121,6 +128,11 @@ module _ (s t : List ℕ) (h : Header) (one : 1 ≤ h .«grain_size») (per : 1 
           rw (← primary-same d used)
           (by-entry (inTable s (h .«one_is_zero») _) (inTable t (h .«one_is_zero») _) refl refl _
           (λ u e. ap (meaning (h .«one_is_zero»)) (in-primary d u used e _ k)))
+
+      pub frame-areas-same : frameAreas s h ≡ frameAreas t h
+      unfolding frameAreas
+      frame-areas-same =
+          rw (same .long, tables-same s t h (h .directory) (same .primary) (primary-in s h p), redundant-same (p .redundant))
 
       -- 9: a grain's marker is read where its sector lies in the file
       abbrev entryPast : List ℕ → Entry → Bool
@@ -184,12 +196,11 @@ module _ (s t : List ℕ) (h : Header) (one : 1 ≤ h .«grain_size») (per : 1 
             rw (sectors-same s t (h .packed) (h .«grain_size») e (λ c. same .markers c g e l q (marker-in g e l q) .0))))
 
         areas-same : areas s h ≡ areas t h
-        unfolding areas
         areas-same =
             rw (
-              same .long,
-              tables-same s t h (h .directory) (same .primary) (primary-in s h p),
-              redundant-same (p .redundant),
+              areas-frame s h,
+              areas-frame t h,
+              frame-areas-same,
               rows-same (grainsOf h) (grainArea s h) (grainArea t h) area-same,
             )
 

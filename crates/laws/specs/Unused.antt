@@ -5,10 +5,11 @@ use mathlib.Core.List.{List}
 use mathlib.Core.Bool.{true}
 use lib.ListN.{length}
 use Rattle.format.specs.Geometry.{fileSectors}
-use Rattle.format.specs.Header.{grainsOf, directoryEntriesOf}
+use Rattle.format.specs.Header.{headerOf, grainsOf, directoryEntriesOf, judge}
 use Rattle.format.specs.Entries.{entryAt, meaningAt, grainEntry, entriesInUse, markerFirst, markerSize}
 use Rattle.format.specs.declared.Header.{Header}
 use Rattle.format.specs.declared.Entry.the-variants.{Sector}
+use Rattle.format.specs.declared.HeaderAnswer.the-variants.{Known}
 
 -- the first n entries of a directory or table
 abbrev pub SameEntries : List ℕ → List ℕ → ℕ → ℕ → Type 0
@@ -27,3 +28,9 @@ pub record SameInUse (s t : List ℕ) (h : Header) : Type 0 where
   pub copies : (h .redundant ≡ 0 → ⊥) → SameTables s t h (h .redundant)
   pub markers : h .packed ≡ true → (g e : ℕ) → g < grainsOf h → grainEntry s h g ≡ Sector e → e < fileSectors s
       → (markerSize s e ≡ markerSize t e) × (markerFirst s e ≡ markerFirst t e)
+
+-- all that decides an answer: the header, and what is read of an image of that header
+pub record SameUsed (s t : List ℕ) : Type 0 where
+  pub judged : judge s ≡ judge t
+  pub header : headerOf s ≡ headerOf t
+  pub used : (h : Header) → judge s ≡ Known h → SameInUse s t h

@@ -32,6 +32,14 @@ pub struct Head {
     pub descriptor_sectors: u64,
 }
 
+/// The frame's answer: how many areas the list starts with.
+#[derive(Clone, Copy, Debug, Default, PartialEq, Eq)]
+pub struct Framed {
+    pub number: u64,
+    pub place: u64,
+    pub count: u64,
+}
+
 /// `Located::kind` of a grain that the parent is asked for.
 pub const ABSENT: u64 = 0;
 /// `Located::kind` of a grain of zeros.

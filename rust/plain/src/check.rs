@@ -1,12 +1,11 @@
 //! The full check: refusals 1 to 12, each over the whole image before the next.
 
 use crate::answers::{refusal, Refusal, Verdict};
-use crate::header::judge;
+use crate::frame::{self, framed};
 use crate::image::{Entry, Image};
-use crate::numbers::past;
 
-/// An area: first sector and sectors.
-type Area = (u64, u64);
+/// The sectors of an area: the first, and how many.
+type Sectors = (u64, u64);
 
 /// The public call.
 pub fn check(bytes: &[u8]) -> Verdict {
@@ -26,11 +25,7 @@ pub fn check(bytes: &[u8]) -> Verdict {
 
 /// The image, if it meets every rule.
 pub fn accept(bytes: &[u8]) -> Result<Image<'_>, Refusal> {
-    let image = Image {
-        bytes,
-        header: judge(bytes)?,
-    };
-    judge_areas(&image)?;
+    let image = framed(bytes)?;
     let grains = grains(&image);
     for (grain, at) in &grains {
         image.judge_past(*grain, *at)?;
@@ -43,40 +38,6 @@ pub fn accept(bytes: &[u8]) -> Result<Image<'_>, Refusal> {
         return Err(refusal(12));
     }
     Ok(image)
-}
-
-/// Refusal 8.
-fn judge_areas(image: &Image) -> Result<(), Refusal> {
-    let header = &image.header;
-    let f = image.sectors();
-    if (header.descriptor == 0) != (header.descriptor_sectors == 0)
-        || past(header.descriptor, header.descriptor_sectors, f)
-    {
-        return Err(refusal(8));
-    }
-    image.judge_directory()?;
-    if header.redundant != 0 && past(header.redundant, header.directory_sectors(), f) {
-        return Err(refusal(8));
-    }
-    let mut tables = tables(image, header.directory);
-    if header.redundant != 0 {
-        tables.extend(self::tables(image, header.redundant));
-    }
-    if tables.iter().any(|table| image.table_past(*table)) {
-        return Err(refusal(8));
-    }
-    Ok(())
-}
-
-/// The sectors of the tables that the directory at sector `at` names.
-fn tables(image: &Image, at: u64) -> Vec<u64> {
-    let mut tables = Vec::new();
-    for entry in image.directory(at) {
-        if let Entry::Sector(table) = entry {
-            tables.push(table);
-        }
-    }
-    tables
 }
 
 /// Every grain that the primary tables name, with its sector, in virtual order. Needs 8 passed.
@@ -116,25 +77,11 @@ fn judge_copies(image: &Image) -> Result<(), Refusal> {
     Ok(())
 }
 
-/// Every area of the image. Each has at least one sector.
-fn areas(image: &Image, grains: &[(u64, u64)]) -> Vec<Area> {
-    let header = &image.header;
-    let f = image.sectors();
-    let mut areas = vec![(0, header.header_sectors())];
-    if header.descriptor != 0 {
-        areas.push((header.descriptor, header.descriptor_sectors));
-    }
-    for directory in [header.directory, header.redundant] {
-        if directory != 0 {
-            areas.push((directory, header.directory_sectors()));
-            for table in tables(image, directory) {
-                areas.push((table, header.table_sectors()));
-            }
-        }
-    }
-    if header.footer {
-        areas.push((f - 2, 1));
-        areas.push((f - 1, 1));
+/// Every area of the image: the frame's and the grains.
+fn areas(image: &Image, grains: &[(u64, u64)]) -> Vec<Sectors> {
+    let mut areas = Vec::new();
+    for area in frame::areas(image) {
+        areas.push((area.first, area.sectors));
     }
     for (_, at) in grains {
         areas.push((*at, image.grain_sectors(*at)));
@@ -143,7 +90,7 @@ fn areas(image: &Image, grains: &[(u64, u64)]) -> Vec<Area> {
 }
 
 /// Refusal 12. In order of first sectors, two areas share a sector exactly if some area reaches the next one's first.
-fn overlap(mut areas: Vec<Area>) -> bool {
+fn overlap(mut areas: Vec<Sectors>) -> bool {
     areas.sort_unstable();
     areas
         .windows(2)

@@ -6,6 +6,7 @@ mod answers;
 mod chain;
 mod check;
 mod describe;
+mod frame;
 mod header;
 mod image;
 mod line;
@@ -14,12 +15,13 @@ mod numbers;
 mod write;
 
 pub use answers::{
-    Described, Extent, Found, Head, Located, Part, Refusal, Verdict, Written, ABSENT, PACKED,
-    STORED, ZERO,
+    Described, Extent, Found, Framed, Head, Located, Part, Refusal, Verdict, Written, ABSENT,
+    PACKED, STORED, ZERO,
 };
 pub use chain::chain;
 pub use check::check;
 pub use describe::{descriptor, find, MOST_EXTENTS, MOST_TEXT};
+pub use frame::frame;
 pub use header::header;
 pub use lookup::{lookup, read};
 pub use write::{collapse, normal, over};

@@ -1,4 +1,4 @@
--- The chain lookup never uses a layer's bytes from 512 x F on: slices whose layers agree below them have the same answers.
+-- The chain lookup of two slices is the same where each layer of the one agrees with that of the other in all that decides.
 use Prim.Native.Nat.{ℕ, zero, suc, _≤_, _<_}
 use mathlib.Core.Path.{_≡_, refl}
 use mathlib.Core.List.{List}
@@ -11,18 +11,19 @@ use Rattle.format.specs.Header.{headerOf}
 use Rattle.format.specs.Chain.{layerAt, headersDown, layersDiffer, walkDown, walk, chainLookup}
 use Rattle.format.specs.declared.ChainAnswer.{ChainAnswer}
 use Rattle.format.proofs.Entries.{some-same}
-use Rattle.laws.specs.NeverUsed.{SameLayers}
-use Rattle.laws.proofs.NeverUsed.{header-same, never-used-header, never-used-lookup}
+use Rattle.laws.specs.Unused.{SameUsed}
+use Rattle.laws.proofs.UsedAnswers.{used-lookup}
 
-module _ (s t lengths : List ℕ) (both : SameLayers s t lengths) where
+module _ (s t lengths : List ℕ) (long : length s ≡ length t)
+    (each : (k : ℕ) → k < length lengths → SameUsed (layerAt s lengths k) (layerAt t lengths k)) where
   head-same : (k : ℕ) → k < length lengths → headerOf (layerAt s lengths k) ≡ headerOf (layerAt t lengths k)
-  head-same k l = header-same _ _ (both .each k l)
+  head-same k l = each k l .header
 
   headers-same : (n : ℕ) → n ≤ length lengths → (a : ChainAnswer) → headersDown s lengths n a ≡ headersDown t lengths n a
   unfolding headersDown
   headers-same zero l a = refl
   headers-same (suc n) l a =
-      rw (never-used-header _ _ (both .each n (omega arith)), headers-same n (omega arith) a)
+      rw (each n (omega arith) .judged, headers-same n (omega arith) a)
 
   differ-same : 1 ≤ length lengths → layersDiffer s lengths ≡ layersDiffer t lengths
   differ-same some = some-same _ _ (length lengths) (λ k l. rw (head-same 0 some, head-same k l))
@@ -31,16 +32,16 @@ module _ (s t lengths : List ℕ) (both : SameLayers s t lengths) where
   unfolding walkDown
   walk-down-same x zero l = refl
   walk-down-same x (suc n) l =
-      rw (never-used-lookup _ _ (both .each n (omega arith)) x, walk-down-same x n (omega arith))
+      rw (used-lookup _ _ (each n (omega arith)) x, walk-down-same x n (omega arith))
 
   walk-same : 1 ≤ length lengths → (x : ℕ) → walk s lengths x ≡ walk t lengths x
   unfolding walk
   walk-same some x = rw (differ-same some, head-same 0 some, walk-down-same x (length lengths) (omega arith))
 
-  pub never-used-chain : (x : ℕ) → chainLookup s lengths x ≡ chainLookup t lengths x
+  pub used-chain : (x : ℕ) → chainLookup s lengths x ≡ chainLookup t lengths x
   unfolding chainLookup
-  never-used-chain x =
-      rw (← both .long)
+  used-chain x =
+      rw (← long)
       (pick-both _≡_ _ _ _ _ _ (λ q. refl)
       (λ n.
       let some = eqb-false (length lengths) 0 (or-no (eqb (length lengths) 0) _ n .0) in

@@ -1,0 +1,118 @@
+-- What a header is read from: the first sector and, where there is a footer, the last two. Images of one length that agree there
+-- have the same header.
+use Prim.Native.Nat.{ℕ, _+_, _≤_}
+use mathlib.Core.Path.{_≡_, refl}
+use mathlib.Core.List.{List}
+use mathlib.Core.Bool.{true}
+use native.Mathlib.Omega.{arith}
+use lib.ListN.{length}
+use Rattle.base.specs.Numbers.{leAt}
+use Rattle.base.specs.Strings.{sameAt}
+use Rattle.base.specs.Bytes.{zeros}
+use Rattle.base.proofs.Over.{zeros-length}
+use Rattle.base.proofs.Steps.{pick-both}
+use Rattle.format.specs.Geometry.{fileSectors, bytesAt}
+use Rattle.format.specs.Kdmv.{kdmvMagic, newlineBytes, kdmvFields, atEnd, footerAt, lastAt, footerDirectory, footerBroken}
+use Rattle.format.specs.Cowd.{cowdMagic, cowdFields}
+use Rattle.format.specs.Header.{directoryOf, headerOf, withFooter, judgeKdmv, judgeCowd, judge}
+use Rattle.format.specs.declared.Header.{Header}
+use Rattle.format.proofs.BytesAt.{part-long}
+use Rattle.laws.specs.SameFrame.{SameBytes}
+use Rattle.laws.proofs.SameBytes.{within, number-same, string-same, part-same}
+
+pub record SameHead (s t : List ℕ) : Type 0 where
+  pub long : length s ≡ length t
+  pub some : 1 ≤ fileSectors s
+  pub head : SameBytes s t 0 512
+  pub tail : sameAt s 0 kdmvMagic ≡ true → atEnd (kdmvFields s) ≡ true → (SameBytes s t (footerAt s) 512)
+      × (SameBytes s t (lastAt s) 512)
+
+module _ (s t : List ℕ) (both : SameHead s t) where
+  number : (at n : ℕ) → at + n ≤ 512 → leAt s at n ≡ leAt t at n
+  number at n l = number-same s t at n (within s t 0 512 at n (both .head) (omega arith) l)
+
+  string : (at : ℕ) (w : List ℕ) → at + length w ≤ 512 → sameAt s at w ≡ sameAt t at w
+  string at w l = string-same s t at w (within s t 0 512 at (length w) (both .head) (omega arith) l)
+
+  kdmv-same : kdmvFields s ≡ kdmvFields t
+  unfolding kdmvFields
+  kdmv-same =
+      rw (
+        number 4 4 (omega arith),
+        number 8 4 (omega arith),
+        number 12 8 (omega arith),
+        number 20 8 (omega arith),
+        number 28 8 (omega arith),
+        number 36 8 (omega arith),
+        number 44 4 (omega arith),
+        number 48 8 (omega arith),
+        number 56 8 (omega arith),
+        string 73 newlineBytes (omega arith),
+        number 77 2 (omega arith),
+      )
+
+  cowd-same : cowdFields s ≡ cowdFields t
+  unfolding cowdFields
+  cowd-same =
+      rw (
+        number 4 4 (omega arith),
+        number 12 4 (omega arith),
+        number 16 4 (omega arith),
+        number 20 4 (omega arith),
+        number 24 4 (omega arith),
+      )
+
+  -- ---- where there is a footer
+  module _ (foot : SameBytes s t (footerAt s) 512) (last : SameBytes s t (lastAt s) 512) where
+    footer-directory : footerDirectory s ≡ footerDirectory t
+    footer-directory =
+        rw (
+          number-same s t (footerAt s + 56) 8 (within s t (footerAt s) 512 (footerAt s + 56) 8 foot (omega arith) (omega arith)),
+          both .long,
+        )
+
+    footer-same : footerBroken s ≡ footerBroken t
+    unfolding footerBroken
+    footer-same =
+        let f : 512 ≤ length s = omega (arith, both .some) in
+        let a : length (bytesAt s 0 56) ≡ 56 = part-long s 0 56 (omega arith) in
+        let b : length (bytesAt s 64 448) ≡ 448 = part-long s 64 448 (omega arith) in
+        rw (
+          string-same s t (footerAt s) (bytesAt s 0 56)
+              (within s t (footerAt s) 512 (footerAt s) _ foot (omega arith) (omega arith)),
+          string-same s t (footerAt s + 64) (bytesAt s 64 448)
+              (within s t (footerAt s) 512 (footerAt s + 64) _ foot (omega arith) (omega arith)),
+          part-same s t 0 56 (both .long) (within s t 0 512 0 56 (both .head) (omega arith) (omega arith)),
+          part-same s t 64 448 (both .long) (within s t 0 512 64 448 (both .head) (omega arith) (omega arith)),
+          string-same s t (lastAt s) (zeros 512) (rw (zeros-length 512) last),
+          footer-directory,
+          both .long,
+        )
+
+  module _ (kdmv : sameAt s 0 kdmvMagic ≡ true) where
+    directory-same : directoryOf s (kdmvFields s) ≡ directoryOf t (kdmvFields s)
+    unfolding directoryOf
+    directory-same =
+        pick-both _≡_ (atEnd (kdmvFields s)) _ _ _ _ (λ e. let r = both .tail kdmv e in footer-directory (r .0) (r .1)) (λ n. refl)
+
+    with-footer-same : (h : Header) → withFooter s (atEnd (kdmvFields s)) h ≡ withFooter t (atEnd (kdmvFields s)) h
+    unfolding withFooter
+    with-footer-same h =
+        pick-both _≡_ (atEnd (kdmvFields s)) _ _ _ _ (λ e. let r = both .tail kdmv e in rw (footer-same (r .0) (r .1))) (λ n. refl)
+
+    judge-kdmv-same : judgeKdmv s ≡ judgeKdmv t
+    unfolding judgeKdmv
+    judge-kdmv-same = rw (← both .long, ← kdmv-same, directory-same, with-footer-same)
+
+  pub header-same : headerOf s ≡ headerOf t
+  unfolding headerOf
+  header-same =
+      rw (← string 0 kdmvMagic (omega arith))
+      (pick-both _≡_ (sameAt s 0 kdmvMagic) _ _ _ _ (λ m. rw (← kdmv-same, directory-same m)) (λ n. rw cowd-same))
+
+  pub judge-same : judge s ≡ judge t
+  unfolding judge judgeCowd
+  judge-same =
+      rw (← both .long, ← string 0 kdmvMagic (omega arith), ← string 0 cowdMagic (omega arith), ← cowd-same)
+      (pick-both _≡_ _ _ _ _ _ (λ q. refl)
+      (λ n. pick-both _≡_ (sameAt s 0 kdmvMagic) _ _ _ _ judge-kdmv-same (λ m. refl)))

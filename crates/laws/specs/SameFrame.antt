@@ -1,0 +1,39 @@
+-- What two images agree in that have the same answers: the bytes of the frame and, of packed grains, the markers.
+use Prim.Native.Nat.{ℕ, _+_, _*_, _≤_, _<_}
+use mathlib.Core.Path.{_≡_}
+use mathlib.Core.List.{List, [], _∷_}
+use mathlib.Core.Bool.{true}
+use lib.ListN.{length, getD}
+use Rattle.format.specs.Geometry.{fileSectors}
+use Rattle.format.specs.Header.{headerOf, grainsOf}
+use Rattle.format.specs.Entries.{grainEntry}
+use Rattle.format.specs.Areas.{Area}
+use Rattle.format.specs.Frame.{frameAreas, frame}
+use Rattle.format.specs.Chain.{layerAt}
+use Rattle.format.specs.declared.Entry.the-variants.{Sector}
+use Rattle.format.specs.declared.FrameAnswer.the-variants.{Listed}
+
+-- the n bytes from `at` on
+abbrev pub SameBytes : List ℕ → List ℕ → ℕ → ℕ → Type 0
+SameBytes s t at n = (i : ℕ) → at ≤ i → i < at + n → getD s i 0 ≡ getD t i 0
+
+-- the sectors of each area of a list
+abbrev pub SameAreas : List ℕ → List ℕ → List Area → Type 0
+SameAreas s t [] = Unit
+SameAreas s t (a ∷ l) = (SameBytes s t (512 * a .first) (512 * a .sectorCount)) × (SameAreas s t l)
+
+-- two images of one length, of which the first has a frame: all of its sectors and, if the image is packed, the 12 bytes of the
+-- marker of each grain that starts in the file
+pub record SameFrame (s t : List ℕ) : Type 0 where
+  pub room : ℕ
+  pub count : ℕ
+  pub listed : frame s room ≡ Listed count
+  pub long : length s ≡ length t
+  pub areas : SameAreas s t (frameAreas s (headerOf s))
+  pub markers : headerOf s .packed ≡ true → (g e : ℕ) → g < grainsOf (headerOf s) → grainEntry s (headerOf s) g ≡ Sector e
+      → e < fileSectors s → SameBytes s t (512 * e) 12
+
+-- two slices with one list of lengths: so does each layer of the one with that layer of the other
+pub record SameFrames (s t lengths : List ℕ) : Type 0 where
+  pub long : length s ≡ length t
+  pub each : (k : ℕ) → k < length lengths → SameFrame (layerAt s lengths k) (layerAt t lengths k)
