@@ -1,18 +1,18 @@
 //! `digest`: SHA-256 of each sector or grain, told as lines `sector digest`.
 
-use crate::failure::{name, Failure};
+use crate::failure::Failure;
 use crate::files::Layers;
-use crate::print::Printer;
+use crate::names::{self, hex};
+use crate::print::{self, Printer};
 use crate::progress::Progress;
-use crate::sector::hex;
 use crate::source;
 use anhkhovet::{Disk, Located, Source, SECTOR};
 use serde_json::{json, Value};
 use sha2::{Digest, Sha256};
 use std::path::PathBuf;
 
-/// How much text is put together before the files are looked at again and it is printed.
-const BATCH: usize = 1 << 16;
+/// How many lines are put together before the files are looked at again and they are printed.
+const BATCH: usize = 1 << 10;
 
 /// One line of the list. A packed grain has one, at its first sector, of its closed payload.
 pub struct Line {
@@ -125,6 +125,30 @@ impl<'a> Digests<'a> {
         }
         Ok(())
     }
+
+    /// All lines, each after a look at the files that came later than its reading.
+    fn looked_at(
+        &mut self,
+        grains: bool,
+        progress: &Option<Progress>,
+        mut take: impl FnMut(&Line) -> Result<(), Failure>,
+    ) -> Result<(), Failure> {
+        let layers = self.layers;
+        let mut batch: Vec<Line> = Vec::with_capacity(BATCH);
+        self.each(grains, |line| {
+            if let (Some(progress), true) = (progress, batch.is_empty()) {
+                progress.at(line.sector);
+            }
+            batch.push(line);
+            if batch.len() < BATCH {
+                return Ok(());
+            }
+            layers.same()?;
+            batch.drain(..).try_for_each(|line| take(&line))
+        })?;
+        layers.same()?;
+        batch.iter().try_for_each(take)
+    }
 }
 
 pub fn print(paths: &[PathBuf], grains: bool, json: bool) -> Result<(), Failure> {
@@ -137,43 +161,19 @@ pub fn print(paths: &[PathBuf], grains: bool, json: bool) -> Result<(), Failure>
     } else {
         Some(Progress::start("digesting", capacity))
     };
-
+    if json {
+        return print::members(|object| {
+            object.member("capacity", &capacity)?;
+            names::files(object, layers.paths())?;
+            object.member("grain_size", &grain_size)?;
+            object.member("of", if grains { "grain" } else { "sector" })?;
+            object.list("digests", |take| {
+                digests.looked_at(grains, &progress, |line| take(&line.object()))
+            })
+        });
+    }
     let mut printer = Printer::new();
-    let mut batch = String::new();
-    if json {
-        let files: Vec<Value> = layers.paths().map(name).collect();
-        let of = if grains { "grain" } else { "sector" };
-        let head =
-            json!({ "capacity": capacity, "files": files, "grain_size": grain_size, "of": of })
-                .to_string();
-        batch = format!("{},\"digests\":[", head.trim_end_matches('}'));
-    }
-    let mut some = false;
-    digests.each(grains, |line| {
-        if json {
-            if some {
-                batch.push(',');
-            }
-            batch += &line.object().to_string();
-        } else {
-            batch += &line.text();
-        }
-        some = true;
-        if batch.len() >= BATCH {
-            layers.same()?;
-            printer.text(&batch)?;
-            batch.clear();
-            if let Some(progress) = &progress {
-                progress.at(line.sector);
-            }
-        }
-        Ok(())
-    })?;
-    layers.same()?;
-    if json {
-        batch += "]}\n";
-    }
-    printer.text(&batch)?;
+    digests.looked_at(grains, &progress, |line| printer.text(&line.text()))?;
     printer.done()
 }
 

@@ -2,6 +2,7 @@
 
 use crate::failure::{Failure, Refusal};
 use crate::guard::Watch;
+use crate::names::name;
 use crate::span::Span;
 use anhkhovet::{ChainRefusal, Disk, Located};
 use std::fs::File;
@@ -213,7 +214,7 @@ pub fn unlike(images: &[(&Path, &[u8])]) -> String {
     let told = |(path, disk): (&Path, Disk)| {
         format!(
             "{} has capacity {} and grain size {}",
-            path.display(),
+            name(path),
             disk.capacity,
             disk.grain_size
         )

@@ -3,6 +3,7 @@
 //!
 //! A handler may do little: it walks two lists that only ever grow, writes ready-made bytes, removes files and exits.
 
+use crate::failure::Status;
 use libc::{c_int, c_void, siginfo_t};
 use std::ffi::CString;
 use std::io;
@@ -125,7 +126,7 @@ unsafe extern "C" fn on_fault(signal: c_int, info: *mut siginfo_t, _: *mut c_voi
                     write_all(libc::STDOUT_FILENO, &range.object);
                 }
             }
-            libc::_exit(1);
+            libc::_exit(Status::Failed as c_int);
         }
         node = range.next;
     }

@@ -1,8 +1,9 @@
 //! `sector` and `read`: one virtual sector.
 
 use crate::cli::Target;
-use crate::failure::{name, Failure};
+use crate::failure::Failure;
 use crate::files::Layers;
+use crate::names::{hex, put_name};
 use crate::output::Output;
 use crate::print::{self, Printer};
 use crate::source;
@@ -43,15 +44,15 @@ pub fn read(
         output.finish()?;
     }
     if let Source::Packed { size, offset, .. } = found.source {
-        eprintln!(
-            "anhkhovet: sector {sector} is packed: these {size} bytes are the closed payload of its whole grain, and once unpacked it is sector {offset} of that"
-        );
+        print::note(&format!(
+            "sector {sector} is packed: these {size} bytes are the closed payload of its whole grain, and once unpacked it is sector {offset} of that"
+        ));
     }
     if json {
         let mut object = source::object(&layers, sector, &found);
         object["length"] = json!(bytes.len());
         match &target {
-            Some(target) => object["output"] = name(&target.path),
+            Some(target) => put_name(&mut object, "output", &target.path),
             None => object["bytes"] = Value::String(hex(&bytes)),
         }
         print::object(&object)
@@ -62,15 +63,4 @@ pub fn read(
     } else {
         Ok(())
     }
-}
-
-/// Two digits a byte.
-pub fn hex(bytes: &[u8]) -> String {
-    const DIGITS: &[u8; 16] = b"0123456789abcdef";
-    let mut text = String::with_capacity(2 * bytes.len());
-    for byte in bytes {
-        text.push(DIGITS[usize::from(byte >> 4)].into());
-        text.push(DIGITS[usize::from(byte & 15)].into());
-    }
-    text
 }

@@ -1,8 +1,9 @@
 //! `collapse` and `normal`: images written by the library into a mapped file.
 
 use crate::cli::Target;
-use crate::failure::{name, Failure, Refusal};
+use crate::failure::{Failure, Refusal, Status};
 use crate::files::{unlike, Layers};
+use crate::names::{name, put_name};
 use crate::output::{Mapped, Output};
 use crate::print;
 use crate::progress::Progress;
@@ -107,8 +108,12 @@ fn blamed(why: anhkhovet::Refusal, lower: (&Path, &[u8]), upper: (&Path, &[u8]))
 fn told(target: &Target, length: u64, json: bool) -> Result<(), Failure> {
     print::answer(
         json,
-        || format!("{}: written, {length} bytes\n", target.path.display()),
-        || json!({ "output": name(&target.path), "length": length }),
+        || format!("{}: written, {length} bytes\n", name(&target.path)),
+        || {
+            let mut object = json!({ "length": length });
+            put_name(&mut object, "output", &target.path);
+            object
+        },
     )
 }
 
@@ -129,7 +134,7 @@ pub fn normal(path: &Path, target: &Target, json: bool) -> Result<(), Failure> {
 pub fn collapse(paths: &[PathBuf], target: &Target, json: bool) -> Result<(), Failure> {
     let progress = Progress::start("collapsing", 0);
     let mut inputs = paths.iter();
-    let first = inputs.next().ok_or(Failure::Told)?;
+    let first = inputs.next().ok_or(Failure::Told(Status::Misused))?;
     let mut lower = Image::File(Layers::one(first)?);
     // The layers that the lower image stands for, told where it is refused.
     let mut before = first.clone();
@@ -155,6 +160,6 @@ pub fn collapse(paths: &[PathBuf], target: &Target, json: bool) -> Result<(), Fa
             drop(progress);
             told(target, length, json)
         }
-        Image::File(_) => Err(Failure::Told),
+        Image::File(_) => Err(Failure::Told(Status::Misused)),
     }
 }
