@@ -9,20 +9,25 @@ mod difference;
 mod digest;
 mod failure;
 mod files;
+mod folder;
 mod guard;
 mod json;
 mod lines;
 mod list;
 mod map;
+mod mapping;
 mod named;
 mod names;
 mod output;
+mod place;
 mod print;
 mod progress;
 mod sector;
+mod signals;
 mod source;
 mod span;
 mod streams;
+mod worker;
 mod write;
 
 use cli::{Stop, Task};
@@ -44,10 +49,15 @@ fn run(task: Task, json: bool) -> Result<(), Failure> {
 }
 
 fn main() {
-    if let Err(error) = guard::install() {
+    if let Err(error) = signals::install() {
         print::note(&format!("signals cannot be handled: {error}"));
         exit(Status::Failed as i32);
     }
+    exit(worker::run(command));
+}
+
+/// From the command line to the status.
+fn command() -> i32 {
     let (ended, json) = match cli::parse() {
         Ok((task, json)) => {
             guard::owe_object(json);
@@ -59,18 +69,19 @@ fn main() {
             (Err(Failure::Told(Status::Misused)), false)
         }
     };
-    if let Err(failure) = ended {
-        tell(describe::hinted(failure), json);
+    match ended {
+        Ok(()) => 0,
+        Err(failure) => tell(describe::hinted(failure), json),
     }
 }
 
 /// On standard error always; as an object too where one was asked for and nothing of it is printed.
-fn tell(failure: Failure, json: bool) -> ! {
+fn tell(failure: Failure, json: bool) -> i32 {
     if !matches!(failure, Failure::Told(_)) {
         print::note(&failure.to_string());
         if json && guard::object_owed() {
             let _ = print::object(&failure.json());
         }
     }
-    exit(failure.status() as i32)
+    failure.status() as i32
 }

@@ -29,6 +29,10 @@ pub fn read(
     json: bool,
 ) -> Result<(), Failure> {
     let layers = Layers::open(paths)?.scattered();
+    let output = match &target {
+        Some(target) => Some(Output::create(target, paths)?),
+        None => None,
+    };
     let found = layers.locate(sector)?;
     let bytes = match found.source {
         Source::Absent | Source::Zero => vec![0; SECTOR as usize],
@@ -38,8 +42,7 @@ pub fn read(
     };
     layers.same()?;
 
-    if let Some(target) = &target {
-        let mut output = Output::create(target)?;
+    if let Some(mut output) = output {
         output.write(&bytes)?;
         output.finish()?;
     }
