@@ -1,10 +1,11 @@
 //! `digest`: SHA-256 of each sector or grain, told as lines `sector digest`.
 
 use crate::cores::in_order;
-use crate::failure::{name, Failure};
+use crate::failure::Failure;
 use crate::files::{same, Layers};
 use crate::hash::{digits, Hash, Hasher, Piece};
-use crate::print::Printer;
+use crate::names;
+use crate::print::{self, Printer};
 use crate::progress::Progress;
 use anhkhovet::Disk;
 use serde_json::{json, Value};
@@ -167,24 +168,19 @@ impl<'a> Digests<'a> {
 
 pub fn print(paths: &[PathBuf], grains: bool, json: bool) -> Result<(), Failure> {
     let mut layers = Layers::open(paths)?;
-    let files: Vec<Value> = layers.paths().map(name).collect();
+    let files = layers.files();
     let mut digests = Digests::of(&mut layers)?;
-    let mut printer = Printer::new();
     if json {
-        let of = if grains { "grain" } else { "sector" };
-        let head = json!({ "capacity": digests.capacity, "files": files, "grain_size": digests.grain_size, "of": of })
-            .to_string();
-        printer.text(&format!("{},\"digests\":[", head.trim_end_matches('}')))?;
-        let mut comma = "";
-        digests.objects(grains, |object| {
-            let told = printer.text(&format!("{comma}{object}"));
-            comma = ",";
-            told
-        })?;
-        printer.text("]}\n")?;
-    } else {
-        digests.print(grains, &mut printer)?;
+        return print::members(|object| {
+            object.member("capacity", &digests.capacity)?;
+            names::files(object, files.iter().map(|file| file.path.as_path()))?;
+            object.member("grain_size", &digests.grain_size)?;
+            object.member("of", if grains { "grain" } else { "sector" })?;
+            object.list("digests", |take| digests.objects(grains, take))
+        });
     }
+    let mut printer = Printer::new();
+    digests.print(grains, &mut printer)?;
     printer.done()
 }
 

@@ -3,6 +3,7 @@
 use crate::failure::{Failure, Refusal};
 use crate::frame;
 use crate::layer::Layer;
+use crate::names::name;
 use crate::own::Own;
 use anhkhovet::{Area, ChainRefusal, Disk, Located};
 use std::fs::File;
@@ -235,7 +236,7 @@ pub fn unlike(images: &[(&Path, &[u8])]) -> String {
     let told = |(path, disk): (&Path, Disk)| {
         format!(
             "{} has capacity {} and grain size {}",
-            path.display(),
+            name(path),
             disk.capacity,
             disk.grain_size
         )

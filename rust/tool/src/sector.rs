@@ -1,8 +1,9 @@
 //! `sector` and `read`: one virtual sector.
 
 use crate::cli::Target;
-use crate::failure::{name, Failure};
+use crate::failure::Failure;
 use crate::files::Layers;
+use crate::names::{hex, put_name};
 use crate::output::Output;
 use crate::print::{self, Printer};
 use crate::source;
@@ -66,7 +67,7 @@ impl Content {
         let mut object = source::object(&self.layers, self.sector, &self.found);
         object["length"] = json!(self.length());
         match target {
-            Some(target) => object["output"] = name(&target.path),
+            Some(target) => put_name(&mut object, "output", &target.path),
             None => {
                 let mut digits = String::new();
                 self.each(|bytes| {
@@ -87,6 +88,10 @@ pub fn read(
     json: bool,
 ) -> Result<(), Failure> {
     let mut layers = Layers::open(paths)?;
+    let output = match &target {
+        Some(target) => Some(Output::create(target, paths)?),
+        None => None,
+    };
     let found = layers.locate(sector)?;
     layers.same()?;
     let content = Content {
@@ -94,15 +99,14 @@ pub fn read(
         sector,
         found,
     };
-    if let Some(target) = &target {
-        let mut output = Output::create(target)?;
+    if let Some(mut output) = output {
         content.each(|bytes| output.write(bytes))?;
         output.finish()?;
     }
     if let Source::Packed { size, offset, .. } = found.source {
-        eprintln!(
-            "anhkhovet: sector {sector} is packed: these {size} bytes are the closed payload of its whole grain, and once unpacked it is sector {offset} of that"
-        );
+        print::note(&format!(
+            "sector {sector} is packed: these {size} bytes are the closed payload of its whole grain, and once unpacked it is sector {offset} of that"
+        ));
     }
     if json {
         print::object(&content.object(target.as_ref())?)
@@ -111,15 +115,4 @@ pub fn read(
     } else {
         Ok(())
     }
-}
-
-/// Two digits a byte.
-pub fn hex(bytes: &[u8]) -> String {
-    const DIGITS: &[u8; 16] = b"0123456789abcdef";
-    let mut text = String::with_capacity(2 * bytes.len());
-    for byte in bytes {
-        text.push(DIGITS[usize::from(byte >> 4)].into());
-        text.push(DIGITS[usize::from(byte & 15)].into());
-    }
-    text
 }

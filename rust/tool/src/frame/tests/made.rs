@@ -206,6 +206,12 @@ impl Made {
                 let cut = 1 + self.chance.below(length.min(60 * 512));
                 self.bytes.truncate((length - cut) as usize);
             }
+            // Maybe a marker's size.
+            6 if form.packed => {
+                let at = 512 * self.chance.below(self.used) + 8;
+                let size = self.chance.below(2) * 512 * self.chance.below(self.used);
+                self.word(at, size);
+            }
             _ => {}
         }
         if self.chance.once_in(4) {
