@@ -4,6 +4,7 @@
 
 mod check;
 mod cli;
+mod commands;
 mod describe;
 mod difference;
 mod digest;
