@@ -154,17 +154,19 @@ impl Text {
         );
         all += "extent        first      sectors access   type           offset name\n";
         for (number, extent) in said.extents.iter().enumerate() {
-            let line = format!(
-                "{number:>6} {:>12} {:>12} {:<8} {:<10} {:>10} {}",
+            all += &format!(
+                "{number:>6} {:>12} {:>12} {:<8} {:<10} {:>10}",
                 extent.first,
                 extent.sectors,
                 extent.access.word(),
                 extent.kind.word(),
                 extent.offset,
-                shown(self.part(&extent.name)),
             );
-            all += line.trim_end();
-            all.push('\n');
+            if !extent.name.is_empty() {
+                all += " ";
+                all += &shown(self.part(&extent.name));
+            }
+            all += "\n";
         }
         all
     }
