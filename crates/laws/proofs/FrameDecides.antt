@@ -141,8 +141,8 @@ module _ (s t : List ℕ) (both : SameFrame s t) where
             (rw (redundant-tables s h two) at (parts .copies));
         markers = λ p g e l q i.
             let same = both .markers p g e l q i in (
-              number-same s t (512 * e + 8) 4 (within s t (512 * e) 12 (512 * e + 8) 4 same (omega arith) (omega arith)),
-              number-same s t (512 * e) 8 (within s t (512 * e) 12 (512 * e) 8 same (omega arith) (omega arith)),
+              number-same s t (512 * e + 8) 4 (within s t (512 * e) _ (512 * e + 8) 4 same (omega arith) (omega arith)),
+              number-same s t (512 * e) 8 (within s t (512 * e) _ (512 * e) 8 same (omega arith) (omega arith)),
             );
       }
 
