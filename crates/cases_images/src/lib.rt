@@ -78,6 +78,43 @@ fn put_answer(a: CollapseAnswer, out: &[u8]) {
     programs::end();
 }
 
+// Each word of a list after the other.
+fn put_words(list: &[u64]) {
+    let n = list.len();
+    let mut i = 0;
+    while i < n {
+        programs::put(list[i]);
+        i += 1;
+    }
+}
+
+// Number, place, count, and the words of the list.
+fn frame_in(image: &[u8], list: &mut [u64]) {
+    let told = answers::framed_of(frame::frame(image, &mut *list));
+    programs::start(b"frame ");
+    programs::put(told.number);
+    programs::put(told.place);
+    programs::put(told.count);
+    put_words(list);
+    programs::end();
+}
+
+fn at_most_96(room: usize) -> usize
+    ensures { λ r. ⌜ r ≤ 96 ⌝ }
+{
+    if 96 < room {
+        return 96;
+    }
+    room
+}
+
+// The words hold 170 before the call: it shows which were not written.
+pub fn frame(image: &[u8], room: usize) {
+    let n = at_most_96(room);
+    let mut words = [170u64; 96];
+    frame_in(image, &mut words[0..n]);
+}
+
 pub fn normal(image: &[u8], out: &mut [u8]) {
     programs::start(b"normal ");
     fill(&mut *out);

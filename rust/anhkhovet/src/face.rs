@@ -28,6 +28,11 @@ answer!(
     Part { at, length }
 );
 answer!(
+    /// How many areas were listed, three words each: group 1 header, 2 descriptor, 3 directory, 4 redundant directory, 5 primary
+    /// table, 6 redundant table, 7 footer, 8 last sector; first sector; sectors.
+    Framed { number, place, count }
+);
+answer!(
     /// The length, in bytes, of what was written.
     Written { number, place, length }
 );
@@ -56,6 +61,12 @@ extern "C" {
         sector: u64,
     ) -> Located;
     pub fn anhkhovet_read(image: *const u8, length: usize, sector: u64) -> Part;
+    pub fn anhkhovet_frame(
+        image: *const u8,
+        length: usize,
+        list: *mut u64,
+        list_length: usize,
+    ) -> Framed;
 }
 
 extern "C" {

@@ -25,6 +25,8 @@ pub struct Header {
 ///
 /// Refusals: 1 to 12, the first that applies.
 ///
+/// It needs [`STACK`](crate::STACK) bytes of stack.
+///
 #[doc = concat!("```\n", include_str!("../examples/check.rs"), "```")]
 pub fn check(image: &[u8]) -> Result<Disk, Refusal> {
     let verdict = raw::check(image);

@@ -4,7 +4,7 @@
 //! what breaks a rule is a [`Refusal`], never a fault. What each call answers is document 01's and is proved in `crates/`; the
 //! calls of [`raw`] give the same answers as plain numbers, with no list of their own.
 //!
-//! - [`check`] judges a whole image, [`header`] its header alone.
+//! - [`check`] judges a whole image, [`header`] its header alone; [`frame`] lists what of it is no grain.
 //! - [`lookup`] says where a sector comes from, [`chain`] the same for layers on top of each other, and [`read`] hands over
 //!   its bytes.
 //! - [`normal`] and [`collapse`] write an image into memory that is lent.
@@ -13,9 +13,19 @@
 //! Words: a *sector* is 512 bytes. An image stores its disk in *grains* of some sectors each; an *entry* of a *table* says where a
 //! grain is, and an entry of the *directory* where a table is.
 //!
+//! # Stack
+//!
+//! Three calls keep a mark for each of some eight million sectors on the stack: [`check`], and [`normal`] and [`collapse`], which
+//! check. A thread that makes one of them needs [`STACK`] bytes for it beside what it uses itself, or the process ends at the
+//! guard below its stack, with nothing overwritten. A main thread has 8 MiB unless `ulimit -s` says less, and a thread of
+//! Rust's 2 MiB unless it is asked for less. Every other call does with less than 16 KiB, and none of them calls itself.
+//!
+//! # The archive
+//!
 //! The archive of the library holds x86-64 code. Where it stands is told in `rust/README.md`.
 
 mod face;
+mod frame;
 mod images;
 pub mod raw;
 mod refusal;
@@ -23,6 +33,7 @@ mod sectors;
 mod texts;
 mod writing;
 
+pub use frame::{frame, Area, Group};
 pub use images::{check, header, Disk, Header};
 pub use refusal::{ChainRefusal, Counted, Refusal};
 pub use sectors::{chain, lookup, read, read_part, Located, Source};
@@ -31,3 +42,8 @@ pub use writing::{collapse, normal};
 
 /// Bytes of a sector.
 pub const SECTOR: u64 = 512;
+
+/// Bytes of stack that are enough for any call: 1 MiB of marks, and room for what stands beside them.
+///
+#[doc = concat!("```\n", include_str!("../examples/stack.rs"), "```")]
+pub const STACK: usize = (1 << 20) + (1 << 16);

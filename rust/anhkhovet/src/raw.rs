@@ -6,9 +6,11 @@
 
 use crate::face;
 
-pub use face::{Described, Extent, Found, Head, Located, Part, Verdict, Written};
+pub use face::{Described, Extent, Found, Framed, Head, Located, Part, Verdict, Written};
 
 /// The full check: refusals 1 to 12, or capacity and grain size.
+///
+/// It needs [`STACK`](crate::STACK) bytes of stack.
 pub fn check(image: &[u8]) -> Verdict {
     // SAFETY: see the top of the file.
     unsafe { face::anhkhovet_check(image.as_ptr(), image.len()) }
@@ -46,13 +48,23 @@ pub fn read_part(image: &[u8], sector: u64) -> Part {
     unsafe { face::anhkhovet_read(image.as_ptr(), image.len(), sector) }
 }
 
+/// Tells the areas of an image but its grains, three words each, over the start of `list`.
+pub fn frame(image: &[u8], list: &mut [u64]) -> Framed {
+    // SAFETY: see the top of the file.
+    unsafe { face::anhkhovet_frame(image.as_ptr(), image.len(), list.as_mut_ptr(), list.len()) }
+}
+
 /// Writes the normal form of an image over the start of `out`.
+///
+/// It needs [`STACK`](crate::STACK) bytes of stack.
 pub fn normal(image: &[u8], out: &mut [u8]) -> Written {
     // SAFETY: see the top of the file.
     unsafe { face::anhkhovet_normal(image.as_ptr(), image.len(), out.as_mut_ptr(), out.len()) }
 }
 
 /// Writes the collapse of two images over the start of `out`.
+///
+/// It needs [`STACK`](crate::STACK) bytes of stack.
 pub fn collapse(lower: &[u8], upper: &[u8], out: &mut [u8]) -> Written {
     // SAFETY: see the top of the file.
     unsafe {

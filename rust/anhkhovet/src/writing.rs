@@ -9,6 +9,8 @@ use crate::{raw, Refusal};
 ///
 /// Refusals: 1 to 12 as the check has them, 23 for COWD and packed images, 21 where `out` is too short.
 ///
+/// It needs [`STACK`](crate::STACK) bytes of stack.
+///
 #[doc = concat!("```\n", include_str!("../examples/normal.rs"), "```")]
 pub fn normal(image: &[u8], out: &mut [u8]) -> Result<u64, Refusal> {
     length(raw::normal(image, out))
@@ -19,6 +21,8 @@ pub fn normal(image: &[u8], out: &mut [u8]) -> Result<u64, Refusal> {
 ///
 /// Refusals: 1 to 12 of `lower`, then of `upper`, as the check has them; 23 for COWD and packed images; 22 where the two are
 /// not of one capacity and grain size; 21 where `out` is too short.
+///
+/// It needs [`STACK`](crate::STACK) bytes of stack.
 ///
 #[doc = concat!("```\n", include_str!("../examples/collapse.rs"), "```")]
 pub fn collapse(lower: &[u8], upper: &[u8], out: &mut [u8]) -> Result<u64, Refusal> {

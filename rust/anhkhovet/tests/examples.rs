@@ -30,8 +30,10 @@ examples! {
     check "check.rs"
     collapse "collapse.rs"
     descriptor "descriptor.rs"
+    frame "frame.rs"
     header "header.rs"
     lookup "lookup.rs"
     normal "normal.rs"
     read "read.rs"
+    stack "stack.rs"
 }

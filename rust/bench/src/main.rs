@@ -1,4 +1,4 @@
-//! bench [--quick] [CALL]..: times of the proved library's calls beside those of their rivals, as one table in Markdown.
+//! `bench [--quick] [CALL]..`: times of the proved library's calls beside those of their rivals, as one table in Markdown.
 //!
 //! README.md says what is measured and how. Status 1 where something failed or two sides gave different answers, 2 where
 //! nothing was measured: wrong arguments, or no x86-64 processor.

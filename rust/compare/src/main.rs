@@ -1,4 +1,4 @@
-//! compare [COUNT] [SEED] [CASE]: compares the proved library with the plain one on COUNT calls (default 100,000).
+//! `compare [COUNT] [SEED] [CASE]`: compares the proved library with the plain one on COUNT calls (default 100,000).
 //!
 //! Status 1 on a difference, or where the inputs left a place of the table empty. CASE starts at a reported case.
 

@@ -13,9 +13,9 @@ use std::path::{Path, PathBuf};
 type Verdict = Result<Disk, Failure>;
 
 fn one(path: &Path) -> Verdict {
-    let layers = Layers::one(path)?.scattered();
+    let mut layers = Layers::one(path)?;
     let _progress = Progress::start(&format!("checking {}", name(path)), 0);
-    let verdict = anhkhovet::check(layers.bytes(0));
+    let verdict = layers.ask(0, anhkhovet::check)?;
     layers.same()?;
     verdict.map_err(Failure::refused(path))
 }

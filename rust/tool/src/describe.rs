@@ -38,7 +38,7 @@ fn of_file(path: &Path) -> Result<Text, Failure> {
         let header = anhkhovet::header(image).map_err(Failure::refused(path))?;
         (inside(path, image, &header)?, true)
     };
-    let bytes = image[part.start as usize..part.end as usize].to_vec();
+    let bytes = layers.part(0, part)?;
     layers.same()?;
     Ok(Text { bytes, embedded })
 }

@@ -21,7 +21,6 @@ pub struct Asked {
 
 /// A comparison and how far it went.
 struct Comparison<'a> {
-    layers: &'a Layers,
     digests: Digests<'a>,
     grains: bool,
     /// Sectors of the disk or, if grains are compared, grains.
@@ -32,12 +31,11 @@ struct Comparison<'a> {
 }
 
 impl<'a> Comparison<'a> {
-    fn of(layers: &'a Layers, grains: bool) -> Result<Comparison<'a>, Failure> {
+    fn of(layers: &'a mut Layers, grains: bool) -> Result<Comparison<'a>, Failure> {
         let digests = Digests::of(layers)?;
         let unit = if grains { digests.grain_size } else { 1 };
         let units = (digests.capacity + unit - 1) / unit;
         Ok(Comparison {
-            layers,
             digests,
             grains,
             units,
@@ -62,7 +60,7 @@ impl<'a> Comparison<'a> {
                 self.failed += 1;
                 // A bar would stand between the lines.
                 progress = None;
-                self.layers.same()?;
+                self.digests.same()?;
                 tell(&Difference {
                     line: lines.number,
                     sector,
@@ -74,7 +72,7 @@ impl<'a> Comparison<'a> {
             }
         }
         drop(progress);
-        self.layers.same()
+        self.digests.same()
     }
 
     fn judge(&mut self, content: Content) -> Result<Option<(Option<u64>, Fault)>, Failure> {
@@ -166,8 +164,8 @@ impl<'a> Comparison<'a> {
 }
 
 pub fn compare(paths: &[PathBuf], asked: &Asked, json: bool) -> Result<(), Failure> {
-    let layers = Layers::open(paths)?;
-    let mut comparison = Comparison::of(&layers, asked.grains)?;
+    let mut layers = Layers::open(paths)?;
+    let mut comparison = Comparison::of(&mut layers, asked.grains)?;
     if json {
         print::members(|object| {
             object.list("differences", |take| {

@@ -1,29 +1,39 @@
 //! anhkhovet: what the proved library says of disk images, for files of any size.
 //!
-//! The tool reads no byte of an image by itself: it maps files, hands them to the library and tells its answers.
+//! The library is lent memory of the tool's own, into which what decides is copied, and the tool tells its answers.
 
 mod check;
 mod cli;
 mod commands;
+mod cores;
 mod describe;
 mod difference;
 mod digest;
 mod failure;
 mod files;
+mod folder;
+mod frame;
 mod guard;
+mod hash;
 mod json;
+mod layer;
 mod lines;
 mod list;
 mod map;
+mod mapping;
 mod named;
 mod names;
 mod output;
+mod own;
+mod place;
 mod print;
 mod progress;
 mod sector;
+mod signals;
 mod source;
 mod span;
 mod streams;
+mod worker;
 mod write;
 
 use cli::{Stop, Task};
@@ -45,10 +55,15 @@ fn run(task: Task, json: bool) -> Result<(), Failure> {
 }
 
 fn main() {
-    if let Err(error) = guard::install() {
+    if let Err(error) = signals::install() {
         print::note(&format!("signals cannot be handled: {error}"));
         exit(Status::Failed as i32);
     }
+    exit(worker::run(command));
+}
+
+/// From the command line to the status.
+fn command() -> i32 {
     let (ended, json) = match cli::parse() {
         Ok((task, json)) => {
             guard::owe_object(json);
@@ -60,18 +75,19 @@ fn main() {
             (Err(Failure::Told(Status::Misused)), false)
         }
     };
-    if let Err(failure) = ended {
-        tell(describe::hinted(failure), json);
+    match ended {
+        Ok(()) => 0,
+        Err(failure) => tell(describe::hinted(failure), json),
     }
 }
 
 /// On standard error always; as an object too where one was asked for and nothing of it is printed.
-fn tell(failure: Failure, json: bool) -> ! {
+fn tell(failure: Failure, json: bool) -> i32 {
     if !matches!(failure, Failure::Told(_)) {
         print::note(&failure.to_string());
         if json && guard::object_owed() {
             let _ = print::object(&failure.json());
         }
     }
-    exit(failure.status() as i32)
+    failure.status() as i32
 }

@@ -66,7 +66,7 @@ impl Run {
     }
 }
 
-fn runs(layers: &Layers, disk: Disk) -> Result<Vec<Run>, Failure> {
+fn runs(layers: &mut Layers, disk: Disk) -> Result<Vec<Run>, Failure> {
     let progress = Progress::start("mapping", disk.capacity);
     let mut runs: Vec<Run> = Vec::new();
     let mut first = 0;
@@ -89,13 +89,13 @@ fn runs(layers: &Layers, disk: Disk) -> Result<Vec<Run>, Failure> {
 }
 
 pub fn map(paths: &[PathBuf], json: bool) -> Result<(), Failure> {
-    let layers = Layers::open(paths)?.scattered();
+    let mut layers = Layers::open(paths)?;
     let disk = layers.disk()?;
     let Disk {
         capacity,
         grain_size,
     } = disk;
-    let runs = runs(&layers, disk)?;
+    let runs = runs(&mut layers, disk)?;
     layers.same()?;
 
     if json {

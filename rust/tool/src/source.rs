@@ -1,6 +1,5 @@
 //! Where a sector comes from, as the tool tells it.
 
-use crate::failure::Failure;
 use crate::files::Layers;
 use crate::names::{name, put_name};
 use anhkhovet::{Located, Source, SECTOR};
@@ -61,14 +60,4 @@ pub fn object(layers: &Layers, sector: u64, found: &Located) -> Value {
         object["offset"] = json!(offset);
     }
     object
-}
-
-/// The bytes that the grain reader hands back for a located sector: none for absent and zero.
-pub fn bytes<'a>(layers: &'a Layers, sector: u64, found: &Located) -> Result<&'a [u8], Failure> {
-    let image = layers.bytes(found.layer);
-    match image.get(anhkhovet::read_part(image, sector)) {
-        Some(bytes) => Ok(bytes),
-        // Only an image that changes under the tool gets here.
-        None => Err(Failure::changed(layers.path(found.layer))),
-    }
 }

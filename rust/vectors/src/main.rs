@@ -1,4 +1,4 @@
-//! vectors [--write]: compares what is stored for the program crates with what the plain implementation says, and names
+//! `vectors [--write]`: compares what is stored for the program crates with what the plain implementation says, and names
 //! each file that differs (status 1). With --write it writes those files anew.
 
 use std::process::exit;

@@ -1,4 +1,4 @@
-//! far [COUNT] [SEED] [CASE]: the comparison on images of over 4 GiB, of which a few pages are touched.
+//! `far [COUNT] [SEED] [CASE]`: the comparison on images of over 4 GiB, of which a few pages are touched.
 //!
 //! Needs that much address space and a system that hands out memory when it is touched; a few MiB are.
 
