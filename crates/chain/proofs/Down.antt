@@ -147,7 +147,7 @@ pub looked-as : (z : LookupAnswer) (s w : List ℕ) (x : ℕ) → z ≡ sectorLo
 looked-as z s w x e q = rw q at e
 
 -- ---- the first layer
-pub first-ends : (s l : List ℕ) → Laid s l → Ends s l (0 + 1) (getD l 0 0)
+pub first-ends : (s l : List ℕ) → Laid 16 s l → Ends s l (0 + 1) (getD l 0 0)
 unfolding lengthsSum
 first-ends s [] z = absurd (omega (arith, z .some))
 first-ends s (n ∷ l) z = record { few = omega arith; there = omega arith; inside = omega (arith, z .whole) }

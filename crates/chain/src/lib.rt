@@ -43,7 +43,7 @@ fn looked_layer(layers: &[u8], lengths: &[u64], k: usize, end: usize, sector: u6
 
 // Headers from the top down, then the walk.
 fn headers_down(layers: &[u8], lengths: &[u64], sector: u64) -> ChainAnswer
-    requires { ⌜ Laid (now layers) (now lengths) ⌝ }
+    requires { ⌜ Laid 16 (now layers) (now lengths) ⌝ }
     ensures { λ r.
         ⌜ r ≡ headersDown (now (layers .entry)) (now (lengths .entry)) (length (now (lengths .entry)))
         (walk (now (layers .entry)) (now (lengths .entry)) sector) ⌝ }
@@ -78,7 +78,7 @@ fn unlike_layer(layers: &[u8], lengths: &[u64], k: usize, end: usize, first: Hea
 
 // Whether some layer's capacity or grain size is not that of the header `first`.
 fn some_unlike(layers: &[u8], lengths: &[u64], first: Header) -> bool
-    requires { ⌜ Laid (now layers) (now lengths) × HeadedFrom (now layers) (now lengths) 0 ⌝ }
+    requires { ⌜ Laid 16 (now layers) (now lengths) × HeadedFrom (now layers) (now lengths) 0 ⌝ }
     ensures { λ r.
         ⌜ r ≡ anyBelow (λ k. unlike first (headerOf (layerAt (now (layers .entry)) (now (lengths .entry)) k)))
         (length (now (lengths .entry))) ⌝ }
@@ -138,7 +138,7 @@ fn layer_step(layers: &[u8], lengths: &[u64], k: usize, end: usize, sector: u64)
 
 // The topmost layer not absent for the sector, else layer 0 and absent.
 fn walk_down(layers: &[u8], lengths: &[u64], sector: u64) -> ChainAnswer
-    requires { ⌜ Laid (now layers) (now lengths) ⌝ }
+    requires { ⌜ Laid 16 (now layers) (now lengths) ⌝ }
     ensures { λ r. ⌜ r ≡ walkDown (now (layers .entry)) (now (lengths .entry)) sector (length (now (lengths .entry))) ⌝ }
 {
     let mut end = layers.len();
@@ -159,7 +159,7 @@ fn walk_down(layers: &[u8], lengths: &[u64], sector: u64) -> ChainAnswer
 
 // 22, 20, then the walk, where the first layer's header is known.
 fn walk_from(layers: &[u8], lengths: &[u64], sector: u64, first: Header) -> ChainAnswer
-    requires { ⌜ Laid (now layers) (now lengths) × HeadedFrom (now layers) (now lengths) 0 ⌝ }
+    requires { ⌜ Laid 16 (now layers) (now lengths) × HeadedFrom (now layers) (now lengths) 0 ⌝ }
     requires { ⌜ first ≡ headerOf (layerAt (now layers) (now lengths) 0) ⌝ }
     ensures { λ r. ⌜ r ≡ walk (now (layers .entry)) (now (lengths .entry)) sector ⌝ }
 {
@@ -179,7 +179,7 @@ fn walk_from(layers: &[u8], lengths: &[u64], sector: u64, first: Header) -> Chai
 }
 
 fn walk(layers: &[u8], lengths: &[u64], sector: u64) -> ChainAnswer
-    requires { ⌜ Laid (now layers) (now lengths) × HeadedFrom (now layers) (now lengths) 0 ⌝ }
+    requires { ⌜ Laid 16 (now layers) (now lengths) × HeadedFrom (now layers) (now lengths) 0 ⌝ }
     ensures { λ r. ⌜ r ≡ walk (now (layers .entry)) (now (lengths .entry)) sector ⌝ }
 {
     let judged = judged_layer(layers, lengths, 0, lengths[0] as usize);
@@ -196,7 +196,7 @@ fn walk(layers: &[u8], lengths: &[u64], sector: u64) -> ChainAnswer
 pub fn chain(layers: &[u8], lengths: &[u64], sector: u64) -> ChainAnswer
     ensures { λ r. ⌜ r ≡ chainLookup (now (layers .entry)) (now (lengths .entry)) sector ⌝ }
 {
-    if lengths_broken(layers, lengths) {
+    if lengths_broken(16, layers, lengths) {
         return ChainAnswer::Refused {
             layer: 0,
             refusal: Refusal::LayerLengths,

@@ -4,7 +4,7 @@ use mathlib.Core.Path.{_≡_, refl, sym, ap, _∙_}
 use mathlib.Core.Bool.{false}
 use lib.Dec.{eqb}
 use Rattle.base.specs.Pick.{pick}
-use Rattle.format.specs.Answers.{number, place, verdict, located, chained, written, framed}
+use Rattle.format.specs.Answers.{number, place, verdict, located, chained, written, framed, surveyed}
 use Rattle.format.specs.declared.Refusal.{Refusal}
 use Rattle.format.specs.declared.Refusal.the-variants.{TooShort, Magic, Version, Newline, Flags, Sizes, Footer, Misplaced}
 use Rattle.format.specs.declared.Refusal.the-variants.{GrainPast, Marker, CopiesDiffer, SharedSector, SectorPast}
@@ -25,6 +25,9 @@ use Rattle.format.specs.declared.Verdict.{Verdict}
 use Rattle.format.specs.declared.Located.{Located}
 use Rattle.format.specs.declared.Written.{Written}
 use Rattle.format.specs.declared.Framed.{Framed}
+use Rattle.format.specs.declared.SurveyAnswer.{SurveyAnswer}
+use Rattle.format.specs.declared.SurveyAnswer.the-variants.{Surveyed as surveyedIn, Refused as notSurveyed}
+use Rattle.format.specs.declared.Surveyed.{Surveyed}
 
 -- what can be told back is told without loss
 lossless : {A B : Type 0} (tell : A → B) (back : B → A) → ((a : A) → back (tell a) ≡ a) → (a b : A) → tell a ≡ tell b → a ≡ b
@@ -155,3 +158,18 @@ frame-back (notListed r) = rw (told r .some, told r .back)
 
 pub frame-alike : (a b : FrameAnswer) → framed a ≡ framed b → a ≡ b
 frame-alike = lossless framed frameOf frame-back
+
+-- ---- the survey
+abbrev surveyOf : Surveyed → SurveyAnswer
+surveyOf s =
+    pick (eqb (s .number) 0)
+    (surveyedIn (record { stored = s .stored; zero = s .zero; absent = s .absent; packed = s .packed }))
+    (notSurveyed (refusalOf (s .number) (s .place)))
+
+survey-back : (a : SurveyAnswer) → surveyOf (surveyed a) ≡ a
+unfolding pick
+survey-back (surveyedIn t) = refl
+survey-back (notSurveyed r) = rw (told r .some, told r .back)
+
+pub survey-alike : (a b : SurveyAnswer) → surveyed a ≡ surveyed b → a ≡ b
+survey-alike = lossless surveyed surveyOf survey-back

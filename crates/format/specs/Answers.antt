@@ -18,10 +18,13 @@ use Rattle.format.specs.declared.CollapseAnswer.{CollapseAnswer}
 use Rattle.format.specs.declared.CollapseAnswer.the-variants.{Written as writtenTo, Refused as collapseRefused}
 use Rattle.format.specs.declared.FrameAnswer.{FrameAnswer}
 use Rattle.format.specs.declared.FrameAnswer.the-variants.{Listed, Refused as frameRefused}
+use Rattle.format.specs.declared.SurveyAnswer.{SurveyAnswer}
+use Rattle.format.specs.declared.SurveyAnswer.the-variants.{Surveyed as surveyedIn, Refused as surveyRefused}
 use Rattle.format.specs.declared.Verdict.{Verdict}
 use Rattle.format.specs.declared.Located.{Located}
 use Rattle.format.specs.declared.Written.{Written}
 use Rattle.format.specs.declared.Framed.{Framed}
+use Rattle.format.specs.declared.Surveyed.{Surveyed}
 use Rattle.format.specs.declared.Head.{Head}
 
 -- ---- refusals: number and place
@@ -115,3 +118,10 @@ written (collapseRefused r) = record { number = number r; place = place r; lengt
 abbrev pub framed : FrameAnswer → Framed
 framed (Listed count) = record { number = 0; place = 0; count = count }
 framed (frameRefused r) = record { number = number r; place = place r; count = 0 }
+
+-- ---- the survey: the four totals
+abbrev pub surveyed : SurveyAnswer → Surveyed
+surveyed (surveyedIn t) =
+    record { number = 0; place = 0; stored = t .stored; zero = t .zero; absent = t .absent; packed = t .packed }
+surveyed (surveyRefused r) =
+    record { number = number r; place = place r; stored = 0; zero = 0; absent = 0; packed = 0 }

@@ -28,9 +28,10 @@ lengthsSum (n ∷ l) = n + lengthsSum l
 abbrev pub layerAt : List ℕ → List ℕ → ℕ → List ℕ
 layerAt s lengths k = bytesAt s (lengthsSum (take k lengths)) (getD lengths k 0)
 
--- 24: the count is 1 to 16, and the lengths' sum, counted exactly, is the slice's length
-abbrev pub lengthsBroken : List ℕ → List ℕ → Bool
-lengthsBroken s lengths = eqb (length lengths) 0 || (ltb 16 (length lengths) || not (eqb (lengthsSum lengths) (length s)))
+-- 24: there are 1 to `most` lengths, and their sum, counted exactly, is the slice's length
+abbrev pub lengthsBroken : ℕ → List ℕ → List ℕ → Bool
+lengthsBroken most s lengths =
+    eqb (length lengths) 0 || (ltb most (length lengths) || not (eqb (lengthsSum lengths) (length s)))
 
 -- ---- headers, from the top down: of the lowest k + 1 layers the topmost, k, is judged first. `a` is the answer where none is
 -- refused
@@ -73,5 +74,5 @@ walk s lengths x =
 -- ---- the chain lookup: 24, which names layer 0; headers from the top down; 22; 20; the walk
 unfoldable pub chainLookup : List ℕ → List ℕ → ℕ → ChainAnswer
 chainLookup s lengths x =
-    pick (lengthsBroken s lengths) (Refused 0 LayerLengths)
+    pick (lengthsBroken 16 s lengths) (Refused 0 LayerLengths)
     (headersDown s lengths (length lengths) (walk s lengths x))

@@ -13,4 +13,5 @@ pub mod Grains
 pub mod Layout
 pub mod Collapse
 pub mod Answers
+pub mod Survey
 pub mod Judged

@@ -100,6 +100,24 @@ pub struct LayerSource {
     pub source: Source,
 }
 
+// Grains by kind, of several images.
+pub struct Totals {
+    pub stored: u64,
+    pub zero: u64,
+    pub absent: u64,
+    pub packed: u64,
+}
+
+// What a survey tells of an image: its grains by kind, or its refusal's number and place.
+pub struct Row {
+    pub stored: u64,
+    pub zero: u64,
+    pub absent: u64,
+    pub packed: u64,
+    pub number: u64,
+    pub place: u64,
+}
+
 // What each call answers.
 pub enum HeaderAnswer {
     Known(Header),
@@ -130,6 +148,11 @@ pub enum CollapseAnswer {
 pub enum FrameAnswer {
     // How many areas the list tells of.
     Listed(u64),
+    Refused(Refusal),
+}
+
+pub enum SurveyAnswer {
+    Surveyed(Totals),
     Refused(Refusal),
 }
 
@@ -167,6 +190,17 @@ pub struct Framed {
     pub number: u64,
     pub place: u64,
     pub count: u64,
+}
+
+// Grains by kind, of all images that are accepted.
+#[repr(C)]
+pub struct Surveyed {
+    pub number: u64,
+    pub place: u64,
+    pub stored: u64,
+    pub zero: u64,
+    pub absent: u64,
+    pub packed: u64,
 }
 
 // A header judged alone, with the descriptor's numbers as it has them.

@@ -109,7 +109,7 @@ module _ {c size : ℕ} (l : List (List ℕ)) (e : Every (Layer c size) l) where
     each : (k : ℕ) → k < length l → Layer c size (layerAt (endToEnd l) (lengthsOf l) k)
     each k h = rw (layer-at l k h) (every-at l e k h)
 
-    lengths-kept : lengthsBroken (endToEnd l) (lengthsOf l) ≡ false
+    lengths-kept : lengthsBroken 16 (endToEnd l) (lengthsOf l) ≡ false
     lengths-kept =
         rw (lengths-count l, ne-eqb (length l) 0 (omega arith), le-ltb 16 (length l) few, eq-eqb _ _ (lengths-sum l))
 

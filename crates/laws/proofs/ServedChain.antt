@@ -37,7 +37,7 @@ unfolding lengthsSum
 one-layer s = take-length s
 
 -- its length is the slice's
-one-length : (s : List ℕ) → lengthsBroken s (length s ∷ []) ≡ false
+one-length : (s : List ℕ) → lengthsBroken 16 s (length s ∷ []) ≡ false
 unfolding lengthsSum
 one-length s = rw (eq-eqb _ _ (add-zero (length s)))
 

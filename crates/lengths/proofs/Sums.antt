@@ -55,17 +55,17 @@ sum-take l k h = rw add-one (sum-suc l k h)
 
 -- the chain's lengths and what of them is known
 module _ (s l : List ℕ) where
-  pub laid-of : {r : Bool} → r ≡ lengthsBroken s l → r ≡ false → Laid s l
-  laid-of e f =
-      let a = or-no (eqb (length l) 0) (ltb 16 (length l) || not (eqb (lengthsSum l) (length s))) (sym e ∙ f) in
-      let b = or-no (ltb 16 (length l)) (not (eqb (lengthsSum l) (length s))) (a .1) in
+  pub laid-of : {most : ℕ} {r : Bool} → r ≡ lengthsBroken most s l → r ≡ false → Laid most s l
+  laid-of {most} e f =
+      let a = or-no (eqb (length l) 0) (ltb most (length l) || not (eqb (lengthsSum l) (length s))) (sym e ∙ f) in
+      let b = or-no (ltb most (length l)) (not (eqb (lengthsSum l) (length s))) (a .1) in
       record {
         some = omega (arith, eqb-false (length l) 0 (a .0));
-        few = ltb-false 16 (length l) (b .0);
+        few = ltb-false most (length l) (b .0);
         whole = eqb-true (lengthsSum l) (length s) (not-no _ (b .1));
       }
 
-  pub ends-all : Laid s l → Ends s l (length l) (length s)
+  pub ends-all : {most : ℕ} → Laid most s l → Ends s l (length l) (length s)
   ends-all z = record { few = le-refl _; there = rw (take-all (length l) l (le-refl _)) (sym (z .whole)); inside = le-refl _ }
 
   module _ (k end : ℕ) (e : Ends s l (k + 1) end) where

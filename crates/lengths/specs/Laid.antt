@@ -6,9 +6,9 @@ use lib.ListN.{length, take}
 use Rattle.format.specs.Chain.{lengthsSum}
 
 -- 24 is not given
-pub record Laid (s lengths : List ℕ) : Type 0 where
+pub record Laid (most : ℕ) (s lengths : List ℕ) : Type 0 where
   pub some : 1 ≤ length lengths
-  pub few : length lengths ≤ 16
+  pub few : length lengths ≤ most
   pub whole : lengthsSum lengths ≡ length s
 
 -- the first k layers end at byte `end`

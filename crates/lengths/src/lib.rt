@@ -20,10 +20,10 @@ fn sum_is(lengths: &[u64], n: u64) -> bool
     left == 0
 }
 
-// 24: 1 to 16 layers, whose lengths are the slice's.
-pub fn lengths_broken(layers: &[u8], lengths: &[u64]) -> bool
-    ensures { λ r. ⌜ r ≡ lengthsBroken (now (layers .entry)) (now (lengths .entry)) ⌝ }
+// 24: 1 to `most` parts, whose lengths are the slice's.
+pub fn lengths_broken(most: usize, parts: &[u8], lengths: &[u64]) -> bool
+    ensures { λ r. ⌜ r ≡ lengthsBroken most (now (parts .entry)) (now (lengths .entry)) ⌝ }
 {
-    let all = sum_is(lengths, layers.len() as u64);
-    (lengths.len() == 0) | ((16 < lengths.len()) | !all)
+    let all = sum_is(lengths, parts.len() as u64);
+    (lengths.len() == 0) | ((most < lengths.len()) | !all)
 }
