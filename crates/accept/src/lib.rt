@@ -1,10 +1,11 @@
 // The full check: refusals 1 to 12, each over the whole image.
 ghost use mathlib.Core.Path.{_≡_};
-ghost use Rattle.format.specs.Header.{judge};
+ghost use Rattle.format.specs.Header.{headerOf, judge};
 ghost use Rattle.format.specs.Check.{lowestBadMarker, unlessGrain, checkApart, checkCopies, checkGrains, checkLayout, check};
 ghost use Rattle.format.specs.declared.HeaderAnswer.the-variants.{Known};
 ghost use Rattle.format.specs.declared.Refusal.the-variants.{Marker};
 ghost use Rattle.format.specs.Judged.{Placed, Filed};
+ghost use Rattle.accept.specs.AcceptedHeader.{acceptedHeader};
 use format::CheckAnswer;
 use format::Header;
 use format::HeaderAnswer;
@@ -79,5 +80,19 @@ pub fn check(image: &[u8]) -> CheckAnswer
     match judged {
         HeaderAnswer::Refused(r) => CheckAnswer::Refused(r),
         HeaderAnswer::Known(h) => check_layout(image, h),
+    }
+}
+
+// The header of an accepted image, or why it is refused.
+pub fn accepted(image: &[u8]) -> HeaderAnswer
+    ensures { λ r. ⌜ r ≡ acceptedHeader (check (now (image .entry))) (headerOf (now (image .entry))) ⌝ }
+{
+    let checked = check(image);
+    match checked {
+        CheckAnswer::Refused(r) => HeaderAnswer::Refused(r),
+        CheckAnswer::Accepted {
+            capacity: _,
+            grain_size: _,
+        } => header::judge(image),
     }
 }

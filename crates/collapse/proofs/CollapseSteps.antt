@@ -26,7 +26,8 @@ use Rattle.format.specs.declared.CollapseAnswer.the-variants.{Written, Refused}
 use Rattle.format.proofs.Grains.{onto-self}
 use Rattle.format.proofs.LayersAt.{like}
 use Rattle.layers.specs.TwoLayers.{layered, imageOf}
-use Rattle.collapse.specs.Answered.{acceptedHeader, collapseAccepted, Checked, Answered}
+use Rattle.accept.specs.AcceptedHeader.{acceptedHeader, Checked}
+use Rattle.collapse.specs.Answered.{collapseAccepted, Answered}
 
 -- a refusal leaves the output as it was
 refused : (a : CollapseAnswer) (image d : List ℕ) (r : Refusal) → Refused r ≡ a → Answered a image d (Refused r) d

@@ -1,31 +1,16 @@
 // Collapse of a lower and an upper image, and the normal form of one, into lent output.
 ghost use mathlib.Core.Path.{_≡_};
 ghost use lib.ListN.{length};
-ghost use Rattle.format.specs.Header.{headerOf};
 ghost use Rattle.format.specs.Check.{check};
 ghost use Rattle.format.specs.Collapse.{collapsed, ifAccepted, notCollapsible, writtenIfRoom, normal, normalOutput};
 ghost use Rattle.format.specs.Collapse.{collapseFrom, collapse, collapseOutput};
 ghost use Rattle.layers.specs.TwoLayers.{layered, imageOf, lengthOf, Layers};
-ghost use Rattle.collapse.specs.Answered.{acceptedHeader, collapseAccepted, Checked, Answered};
-use format::CheckAnswer;
+ghost use Rattle.accept.specs.AcceptedHeader.{Checked};
+ghost use Rattle.collapse.specs.Answered.{collapseAccepted, Answered};
 use format::CollapseAnswer;
 use format::Header;
 use format::HeaderAnswer;
 use format::Refusal;
-
-// The header of an accepted image, or why it is refused.
-fn accepted(image: &[u8]) -> HeaderAnswer
-    ensures { λ r. ⌜ r ≡ acceptedHeader (check (now (image .entry))) (headerOf (now (image .entry))) ⌝ }
-{
-    let checked = accept::check(image);
-    match checked {
-        CheckAnswer::Refused(r) => HeaderAnswer::Refused(r),
-        CheckAnswer::Accepted {
-            capacity: _,
-            grain_size: _,
-        } => header::judge(image),
-    }
-}
 
 fn not_collapsible(h: Header) -> bool
     ensures { λ r. ⌜ r ≡ notCollapsible h ⌝ }
@@ -78,7 +63,7 @@ fn collapse_onto(lower: &[u8], h: Header, upper: &[u8], out: &mut [u8]) -> Colla
         (collapseAccepted (now (lower .entry)) (now (upper .entry)) (length (now (out .entry)))))
         (collapsed (now (lower .entry)) (now (upper .entry))) (now (out .entry)) r (now (out .exit)) ⌝ }
 {
-    let judged = accepted(upper);
+    let judged = accept::accepted(upper);
     match judged {
         HeaderAnswer::Refused(r) => CollapseAnswer::Refused(r),
         HeaderAnswer::Known(k) => collapse_layers(lower, h, upper, k, &mut *out),
@@ -91,7 +76,7 @@ pub fn collapse(lower: &[u8], upper: &[u8], out: &mut [u8]) -> CollapseAnswer
     ensures { λ r. ⌜ r ≡ collapse (now (lower .entry)) (now (upper .entry)) (length (now (out .entry))) ⌝ }
     ensures { λ r. ⌜ now (out .exit) ≡ collapseOutput (now (lower .entry)) (now (upper .entry)) (now (out .entry)) ⌝ }
 {
-    let judged = accepted(lower);
+    let judged = accept::accepted(lower);
     match judged {
         HeaderAnswer::Refused(r) => CollapseAnswer::Refused(r),
         HeaderAnswer::Known(h) => collapse_onto(lower, h, upper, &mut *out),
@@ -103,7 +88,7 @@ pub fn normal(image: &[u8], out: &mut [u8]) -> CollapseAnswer
     ensures { λ r. ⌜ r ≡ normal (now (image .entry)) (length (now (out .entry))) ⌝ }
     ensures { λ r. ⌜ now (out .exit) ≡ normalOutput (now (image .entry)) (now (out .entry)) ⌝ }
 {
-    let judged = accepted(image);
+    let judged = accept::accepted(image);
     match judged {
         HeaderAnswer::Refused(r) => CollapseAnswer::Refused(r),
         HeaderAnswer::Known(h) => collapse_layers(image, h, image, h, &mut *out),

@@ -1,4 +1,4 @@
-use Rattle.collapse.proofs.Checks.{checked-of}
+use Rattle.accept.proofs.AcceptedHeaders.{checked-of}
 use Rattle.collapse.proofs.CollapseSteps.{unknown-refused, known-on, told-left}
 use borrow.Author.Needs.{needs}
 use Rattle.collapse.proofs.collapse.Statement.{statement}

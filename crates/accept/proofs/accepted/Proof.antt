@@ -1,7 +1,7 @@
-use Rattle.collapse.proofs.Checks.{header-refused, header-accepted}
+use Rattle.accept.proofs.AcceptedHeaders.{header-refused, header-accepted}
 use borrow.Author.Needs.{needs}
-use Rattle.collapse.proofs.accepted.Statement.{statement}
-use Rattle.collapse.proofs.accepted.Tie as tie
+use Rattle.accept.proofs.accepted.Statement.{statement}
+use Rattle.accept.proofs.accepted.Tie as tie
 
 pub accepted-spec : {M : Type 1} → statement M
 accepted-spec =
