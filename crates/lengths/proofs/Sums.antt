@@ -1,6 +1,6 @@
 -- Sums of lengths, as the loops go through them.
 use Prim.Native.Nat.{ℕ, zero, suc, _+_, _-_, _≤_, _<_}
-use mathlib.Core.Path.{_≡_, sym, _∙_}
+use mathlib.Core.Path.{_≡_, refl, sym, _∙_}
 use mathlib.Core.List.{List, [], _∷_}
 use mathlib.Core.Bool.{Bool, false, not, _||_}
 use native.Mathlib.Omega.{arith}
@@ -53,6 +53,13 @@ sum-suc (x ∷ l) (suc k) h = rw (sum-suc l k (omega arith)) (sym (add-assoc x (
 sum-take : (l : List ℕ) (k : ℕ) → k < length l → lengthsSum (take (k + 1) l) ≡ lengthsSum (take k l) + getD l k 0
 sum-take l k h = rw add-one (sum-suc l k h)
 
+sum-most : (l : List ℕ) (k : ℕ) → lengthsSum (take k l) ≤ lengthsSum l
+unfolding lengthsSum
+sum-most [] zero = le-refl _
+sum-most [] (suc k) = le-refl _
+sum-most (x ∷ l) zero = omega arith
+sum-most (x ∷ l) (suc k) = omega (arith, sum-most l k)
+
 -- the chain's lengths and what of them is known
 module _ (s l : List ℕ) where
   pub laid-of : {most : ℕ} {r : Bool} → r ≡ lengthsBroken most s l → r ≡ false → Laid most s l
@@ -67,6 +74,18 @@ module _ (s l : List ℕ) where
 
   pub ends-all : {most : ℕ} → Laid most s l → Ends s l (length l) (length s)
   ends-all z = record { few = le-refl _; there = rw (take-all (length l) l (le-refl _)) (sym (z .whole)); inside = le-refl _ }
+
+  pub ends-none : Ends s l 0 0
+  unfolding lengthsSum
+  ends-none = record { few = omega arith; there = refl; inside = omega arith }
+
+  pub ends-up : {most : ℕ} (k start : ℕ) → Laid most s l → Ends s l k start → k < length l
+      → Ends s l (k + 1) (start + getD l k 0)
+  ends-up k start z e h = record {
+    few = omega arith;
+    there = omega (arith, e .there, sum-take l k h);
+    inside = omega (arith, e .there, sum-take l k h, sum-most l (k + 1), z .whole);
+  }
 
   module _ (k end : ℕ) (e : Ends s l (k + 1) end) where
     pub layer-fits : getD l k 0 ≤ end

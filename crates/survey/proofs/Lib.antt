@@ -1,0 +1,4 @@
+pub mod RowLaws
+pub mod ImageLaws
+pub mod RowsPut
+pub mod TallyLaws
