@@ -2,3 +2,4 @@ pub mod RowLaws
 pub mod ImageLaws
 pub mod RowsPut
 pub mod TallyLaws
+pub mod SurveySteps

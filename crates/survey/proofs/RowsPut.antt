@@ -15,7 +15,7 @@ use Rattle.framing.specs.WordsPut.{WordsPut}
 use Rattle.framing.proofs.WordsLaws.{put-none, put-more, put-length}
 use Rattle.survey.specs.Small.{SmallTotals}
 
-row-long : (r : Row) → length (rowWords r) ≡ 6
+pub row-long : (r : Row) → length (rowWords r) ≡ 6
 unfolding rowWords
 row-long r = refl
 

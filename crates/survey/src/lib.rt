@@ -9,10 +9,12 @@ ghost use Rattle.base.specs.Rows.{tabulate};
 ghost use Rattle.format.specs.Answers.{number, place};
 ghost use Rattle.format.specs.Chain.{layerAt};
 ghost use Rattle.format.specs.Survey.{countOf, rowFrom, rowOf, rowAt, rowWords, rowsBelow, addRow, totalsBelow};
-ghost use Rattle.format.specs.Survey.{surveyedIfRoom, survey, surveyRows, surveyTally};
+ghost use Rattle.format.specs.Survey.{surveyedIfRoom, survey};
 ghost use Rattle.format.specs.declared.CheckAnswer.the-variants.{Accepted, Refused};
 ghost use Rattle.lengths.specs.Laid.{Laid, Ends};
 ghost use Rattle.survey.specs.Small.{SmallRow, SmallTotals};
+ghost use Rattle.survey.specs.SurveyTold.{SurveyTold};
+ghost use Rattle.format.specs.declared.SurveyAnswer.the-variants.{Surveyed};
 ghost use Rattle.framing.specs.WordsPut.{WordsPut};
 ghost use Rattle.accept.specs.AcceptedHeader.{Checked};
 use format::CheckAnswer;
@@ -172,4 +174,51 @@ fn put_tally(rows: &[u64], n: usize, tally: &mut [u64])
         tally[i] = rows_with(rows, n, i as u64 + 1);
         i += 1;
     }
+}
+
+// Rows, totals and tally, where both lists are long enough.
+fn survey_all(images: &[u8], lengths: &[u64], rows: &mut [u64], tally: &mut [u64]) -> Totals
+    requires { ⌜ Laid 1024 (now images) (now lengths) ⌝ }
+    requires { ⌜ (6 * length (now lengths) ≤ length (now rows)) × (63 ≤ length (now tally)) ⌝ }
+    ensures { λ r.
+        ⌜ SurveyTold (now (images .entry)) (now (lengths .entry))
+        (Surveyed (totalsBelow (now (images .entry)) (now (lengths .entry)) (length (now (lengths .entry)))))
+        (now (rows .entry)) (now (tally .entry)) (Surveyed r) (now (rows .exit)) (now (tally .exit)) ⌝ }
+{
+    let totals = put_rows(images, lengths, &mut *rows);
+    put_tally(rows, lengths.len(), &mut *tally);
+    totals
+}
+
+// 21, or the survey.
+fn survey_if_room(
+    images: &[u8],
+    lengths: &[u64],
+    rows: &mut [u64],
+    tally: &mut [u64],
+) -> SurveyAnswer
+    requires { ⌜ Laid 1024 (now images) (now lengths) ⌝ }
+    ensures { λ r.
+        ⌜ SurveyTold (now (images .entry)) (now (lengths .entry))
+        (surveyedIfRoom (now (images .entry)) (now (lengths .entry)) (length (now (rows .entry))) (length (now (tally .entry))))
+        (now (rows .entry)) (now (tally .entry)) r (now (rows .exit)) (now (tally .exit)) ⌝ }
+{
+    if (rows.len() < 6 * lengths.len()) | (tally.len() < 63) {
+        return SurveyAnswer::Refused(Refusal::TooLittleRoom);
+    }
+    SurveyAnswer::Surveyed(survey_all(images, lengths, &mut *rows, &mut *tally))
+}
+
+// Up to 1,024 images end to end, with their lengths. Rows are six words an image: stored, zero, absent, packed, number, place.
+// The tally's 63 words are the numbers of images that are refused 1 to 63. Words past these, and all on a refusal, are kept.
+pub fn survey(images: &[u8], lengths: &[u64], rows: &mut [u64], tally: &mut [u64]) -> SurveyAnswer
+    ensures { λ r.
+        ⌜ SurveyTold (now (images .entry)) (now (lengths .entry))
+        (survey (now (images .entry)) (now (lengths .entry)) (length (now (rows .entry))) (length (now (tally .entry))))
+        (now (rows .entry)) (now (tally .entry)) r (now (rows .exit)) (now (tally .exit)) ⌝ }
+{
+    if lengths::lengths_broken(1024, images, lengths) {
+        return SurveyAnswer::Refused(Refusal::LayerLengths);
+    }
+    survey_if_room(images, lengths, &mut *rows, &mut *tally)
 }
