@@ -218,34 +218,36 @@ fn collapse() {
     race(&["collapse", "disk", "delta", "-o", "out"]);
 }
 
-/// Entries of a table turn from absent to stored and back once the output is begun: what the library counted before it wrote
-/// must be what it writes.
+/// Entries turn from absent to stored and back once the output is begun: what the library counted before it wrote must be what
+/// it writes. They are the last ones of many, so that each pass over the tables takes its time to come there.
 #[test]
 fn tables_that_turn_while_the_normal_form_is_written() {
+    let (grains, turning) = (1 << 20, 256);
     let folder = Folder::new();
-    let disk = Image::new(&folder.at("disk"), GRAIN * 512);
-    disk.length(512 * (disk.start + GRAIN * 256));
-    let stored: Vec<u8> = (0..256)
+    let disk = Image::new(&folder.at("disk"), GRAIN * grains);
+    disk.length(512 * (disk.start + GRAIN * turning));
+    let stored: Vec<u8> = (0..turning)
         .flat_map(|grain| ((disk.start + GRAIN * grain) as u32).to_le_bytes())
         .collect();
     let states = [vec![0; stored.len()], stored];
+    let at = disk.entry_at(grains - 512);
     let words = ["normal", "disk", "-o", "out"];
     Image::new(&folder.at("delta"), GRAIN);
     for turn in 0..if emulated() { 4 } else { 30 } {
         let [first, second] = [&states[turn % 2], &states[(turn + 1) % 2]];
-        disk.put(1024, first);
+        disk.put(at, first);
         let right = Answer::of(&folder, run(folder.path(), &words));
         assert_eq!(right.status, Some(0), "{}", right.err);
         let child = begun(&folder, tool(folder.path()).args(words));
         let done = AtomicBool::new(false);
         let ran = thread::scope(|scope| {
+            let stopped = StopAtEnd(&done);
             scope.spawn(|| {
                 while !done.load(Relaxed) {
-                    disk.put(1024, second);
-                    disk.put(1024, first);
+                    disk.put(at, second);
+                    disk.put(at, first);
                 }
             });
-            let stopped = StopAtEnd(&done);
             let ran = Ran::of(child.wait_with_output().expect("it ends"));
             drop(stopped);
             ran
