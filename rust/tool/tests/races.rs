@@ -233,7 +233,7 @@ fn tables_that_turn_while_the_normal_form_is_written() {
     let at = disk.entry_at(grains - 512);
     let words = ["normal", "disk", "-o", "out"];
     Image::new(&folder.at("delta"), GRAIN);
-    for turn in 0..if emulated() { 4 } else { 30 } {
+    for turn in 0..if emulated() { 4 } else { 16 } {
         let [first, second] = [&states[turn % 2], &states[(turn + 1) % 2]];
         disk.put(at, first);
         let right = Answer::of(&folder, run(folder.path(), &words));
