@@ -35,6 +35,7 @@ mod source;
 mod streams;
 mod worker;
 mod write;
+mod writeback;
 
 use cli::{Stop, Task};
 use failure::{Failure, Status};
