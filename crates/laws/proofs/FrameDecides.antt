@@ -1,5 +1,5 @@
--- The frame decides: two images of one length that agree in the sectors of the frame of the one and, if that is packed, in the
--- markers of its grains have the same check, lookups, frame, and length of what is written.
+-- The frame decides: two images of one length that agree in the sectors of the frame of the one, but for the descriptor's, and,
+-- if that is packed, in the markers of its grains have the same check, lookups, frame, and length of what is written.
 use Prim.Native.Nat.{ℕ, _+_, _*_, _≤_}
 use mathlib.Core.Path.{_≡_, refl, ap, _∙_}
 use mathlib.Core.List.{List, _++_}
@@ -14,13 +14,13 @@ use Rattle.format.specs.Geometry.{fileSectors}
 use Rattle.format.specs.Kdmv.{kdmvMagic, kdmvFields, atEnd}
 use Rattle.format.specs.Header.{kdmvHeader, cowdHeader, headerOf, directoryEntriesOf, judge}
 use Rattle.format.specs.Entries.{entryAt, meaningAt}
-use Rattle.format.specs.Areas.{headerArea, descriptorArea, directoryArea, redundantArea, tableAreas, primaryTables, named}
+use Rattle.format.specs.Areas.{headerArea, directoryArea, redundantArea, tableAreas, primaryTables, named}
 use Rattle.format.specs.Areas.{redundantTables, footerArea, lastArea}
 use Rattle.format.specs.Check.{check}
 use Rattle.format.specs.Source.{sectorLookup}
 use Rattle.format.specs.Chain.{chainLookup}
 use Rattle.format.specs.Collapse.{normal, collapse}
-use Rattle.format.specs.Frame.{frameAreas, frameFrom, frame}
+use Rattle.format.specs.Frame.{frameFrom, frame}
 use Rattle.format.specs.Judged.{Sound}
 use Rattle.format.specs.declared.Header.{Header}
 use Rattle.format.specs.declared.HeaderAnswer.{HeaderAnswer}
@@ -29,7 +29,7 @@ use Rattle.format.specs.declared.FrameAnswer.the-variants.{Listed}
 use Rattle.format.proofs.HeaderJudged.{judged-rules, judged-header}
 use Rattle.format.proofs.HeaderSound.{sound-of}
 use Rattle.format.proofs.Places.{redundant-tables}
-use Rattle.laws.specs.SameFrame.{SameBytes, SameAreas, SameFrame, SameFrames}
+use Rattle.laws.specs.SameFrame.{SameBytes, SameAreas, decidingAreas, SameFrame, SameFrames}
 use Rattle.laws.specs.Unused.{SameTables, SameInUse, SameUsed}
 use Rattle.laws.proofs.SameBytes.{within, number-same, areas-both, areas-row, area-there, area-named}
 use Rattle.laws.proofs.SameHeader.{SameHead, header-same, judge-same}
@@ -38,7 +38,8 @@ use Rattle.laws.proofs.UsedChain.{used-chain}
 use Rattle.laws.proofs.UsedCollapse.{used-collapse, used-normal}
 
 -- ---- an image that has a frame has a header
-listed-known : (s : List ℕ) (room count : ℕ) (a : HeaderAnswer) → frameFrom s room a ≡ Listed count → (h : Header) × (a ≡ Known h)
+listed-known : (s : List ℕ) (room count : ℕ) (a : HeaderAnswer) → frameFrom s room a ≡ Listed count
+    → (h : Header) × (a ≡ Known h)
 unfolding frameFrom
 listed-known s room count (unknown r) e = let z : _≡_ {A = ℕ} 0 1 = cc in absurd (omega arith)
 listed-known s room count (Known h) e = (h, refl)
@@ -57,23 +58,22 @@ pub record SameGroups (s t : List ℕ) (h : Header) : Type 0 where
   pub footer : SameAreas s t (footerArea s h)
   pub last : SameAreas s t (lastArea s h)
 
-groups : (s t : List ℕ) (h : Header) → SameAreas s t (frameAreas s h) → SameGroups s t h
-unfolding frameAreas
+groups : (s t : List ℕ) (h : Header) → SameAreas s t (decidingAreas s h) → SameGroups s t h
+unfolding decidingAreas
 groups s t h all =
     let ends = footerArea s h ++ lastArea s h in
     let copies = redundantTables s h ++ ends in
     let tables = primaryTables s h ++ copies in
     let directories = redundantArea h ++ tables in
-    let a = areas-both s t (headerArea h) (descriptorArea h ++ (directoryArea h ++ directories)) all in
-    let b = areas-both s t (descriptorArea h) (directoryArea h ++ directories) (a .1) in
-    let c = areas-both s t (directoryArea h) directories (b .1) in
-    let d = areas-both s t (redundantArea h) tables (c .1) in
+    let a = areas-both s t (headerArea h) (directoryArea h ++ directories) all in
+    let b = areas-both s t (directoryArea h) directories (a .1) in
+    let d = areas-both s t (redundantArea h) tables (b .1) in
     let e = areas-both s t (primaryTables s h) copies (d .1) in
     let f = areas-both s t (redundantTables s h) ends (e .1) in
     let g = areas-both s t (footerArea s h) (lastArea s h) (f .1) in
     record {
       header = a .0;
-      directory = c .0;
+      directory = b .0;
       redundant = d .0;
       tables = e .0;
       copies = f .0;
@@ -85,7 +85,8 @@ groups s t h all =
 module _ (s t : List ℕ) (h : Header) (sound : Sound h) (directory : ℕ)
     (own : SameBytes s t (512 * directory) (512 * h .«directory_sectors»))
     (tables : SameAreas s t (tableAreas s (h .«one_is_zero») (h .«table_sectors») directory (directoryEntriesOf h))) where
-  entry : (u sectors k : ℕ) → SameBytes s t (512 * u) (512 * sectors) → 4 * k + 4 ≤ 512 * sectors → entryAt s u k ≡ entryAt t u k
+  entry : (u sectors k : ℕ) → SameBytes s t (512 * u) (512 * sectors) → 4 * k + 4 ≤ 512 * sectors
+      → entryAt s u k ≡ entryAt t u k
   entry u sectors k same l =
       number-same s t (512 * u + 4 * k) 4
       (within s t (512 * u) (512 * sectors) (512 * u + 4 * k) 4 same (omega arith) (omega arith))
@@ -94,7 +95,8 @@ module _ (s t : List ℕ) (h : Header) (sound : Sound h) (directory : ℕ)
   tables-decide = record {
     entries = λ i d l. entry directory (h .«directory_sectors») d own (omega (arith, sound .directory));
     tables = λ d u l e i k b.
-        let row = areas-row s t _ (λ j. named (λ x. h .«table_sectors») (meaningAt s (h .«one_is_zero») directory j)) tables d l in
+        let row =
+        areas-row s t _ (λ j. named (λ x. h .«table_sectors») (meaningAt s (h .«one_is_zero») directory j)) tables d l in
         entry u (h .«table_sectors») k (area-named s t (λ x. h .«table_sectors») u (rw e at row)) (omega (arith, sound .table));
   }
 
@@ -102,7 +104,7 @@ module _ (s t : List ℕ) (h : Header) (sound : Sound h) (directory : ℕ)
 module _ (s t : List ℕ) (both : SameFrame s t) where
   known : judge s ≡ Known (headerOf s)
   known =
-      let r = listed-known s (both .room) (both .count) (judge s) (both .listed) in
+      let r = listed-known s (both .room) (both .listCount) (judge s) (both .listed) in
       r .1 ∙ ap Known (judged-header s (r .0) (r .1))
 
   parts : SameGroups s t (headerOf s)
@@ -139,8 +141,8 @@ module _ (s t : List ℕ) (both : SameFrame s t) where
             (rw (redundant-tables s h two) at (parts .copies));
         markers = λ p g e l q i.
             let same = both .markers p g e l q i in (
-              number-same s t (512 * e + 8) 4 (within s t (512 * e) 12 (512 * e + 8) 4 same (omega arith) (omega arith)),
-              number-same s t (512 * e) 8 (within s t (512 * e) 12 (512 * e) 8 same (omega arith) (omega arith)),
+              number-same s t (512 * e + 8) 4 (within s t (512 * e) _ (512 * e + 8) 4 same (omega arith) (omega arith)),
+              number-same s t (512 * e) 8 (within s t (512 * e) _ (512 * e) 8 same (omega arith) (omega arith)),
             );
       }
 
@@ -164,7 +166,8 @@ module _ (s t : List ℕ) (both : SameFrame s t) where
   frame-decides-normal = used-normal s t decides
 
 -- s and t are the lower images, u and v the upper ones
-pub frame-decides-collapse : (s t u v : List ℕ) → SameFrame s t → SameFrame u v → (room : ℕ) → collapse s u room ≡ collapse t v room
+pub frame-decides-collapse : (s t u v : List ℕ) → SameFrame s t → SameFrame u v → (room : ℕ)
+    → collapse s u room ≡ collapse t v room
 frame-decides-collapse s t u v low up = used-collapse s t u v (decides s t low) (decides u v up)
 
 pub frame-decides-chain : (s t lengths : List ℕ) → SameFrames s t lengths → (x : ℕ) → chainLookup s lengths x

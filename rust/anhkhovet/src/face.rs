@@ -3,6 +3,8 @@
 macro_rules! answer {
     ($(#[$about:meta])* $name:ident { $($field:ident),* }) => {
         $(#[$about])*
+        // A field is told by its name or by the struct's own line.
+        #[allow(missing_docs)]
         #[repr(C)]
         #[derive(Clone, Copy, Debug, Default, PartialEq, Eq)]
         pub struct $name {

@@ -11,12 +11,19 @@ const WORDS: usize = 3;
 /// What an area of the frame holds.
 #[derive(Clone, Copy, Debug, PartialEq, Eq, Hash)]
 pub enum Group {
+    /// One sector, or four of a COWD image.
     Header,
+    /// The text inside the image.
     Descriptor,
+    /// The directory that lookups go by.
     Directory,
+    /// Its copy.
     RedundantDirectory,
+    /// A table that the directory names.
     PrimaryTable,
+    /// A table that the copy names.
     RedundantTable,
+    /// The header once more, near the end of a stream, which says where the directory is.
     Footer,
     /// The sector after the footer, the file's last one.
     LastSector,
@@ -25,6 +32,7 @@ pub enum Group {
 /// Some sectors of the file in a row.
 #[derive(Clone, Copy, Debug, PartialEq, Eq, Hash)]
 pub struct Area {
+    /// What it holds.
     pub group: Group,
     /// Its first sector in the file.
     pub first: u64,

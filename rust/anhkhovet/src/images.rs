@@ -14,6 +14,7 @@ pub struct Disk {
 /// What a header says.
 #[derive(Clone, Copy, Debug, PartialEq, Eq, Hash)]
 pub struct Header {
+    /// The disk's size and that of its grains.
     pub disk: Disk,
     /// First sector of the descriptor inside the image, as the header names it: nothing says yet that it lies in the file.
     pub descriptor: u64,

@@ -24,6 +24,8 @@
 //!
 //! The archive of the library holds x86-64 code. Where it stands is told in `rust/README.md`.
 
+#![warn(missing_docs)]
+
 mod face;
 mod frame;
 mod images;

@@ -26,6 +26,7 @@ pub enum Counted {
 /// A refusal of a chain, and the layer that was met.
 #[derive(Clone, Copy, Debug, PartialEq, Eq, Hash)]
 pub struct ChainRefusal {
+    /// Why.
     pub refusal: Refusal,
     /// The layer, from 0 at the base; 0 also where the whole chain is refused.
     pub layer: u64,

@@ -10,11 +10,20 @@ pub enum Source {
     Absent,
     /// It reads as zeros, whatever a parent has.
     Zero,
-    /// It stands at this sector of the file.
-    Stored { sector: u64 },
-    /// It is in a grain that is packed: a marker of 12 bytes at this sector of the file, then `size` bytes, which unpacked are
-    /// the whole grain. The sector is number `offset` of the grain.
-    Packed { sector: u64, size: u64, offset: u64 },
+    /// It stands in the file.
+    Stored {
+        /// The file's sector.
+        sector: u64,
+    },
+    /// It is in a grain that is packed: a marker of 12 bytes, then the payload, which unpacked is the whole grain.
+    Packed {
+        /// The file's sector at which the marker is.
+        sector: u64,
+        /// Bytes of the payload.
+        size: u64,
+        /// The number, from 0, of the virtual sector in its grain.
+        offset: u64,
+    },
 }
 
 /// Where a virtual sector comes from, inside a chain.
@@ -22,6 +31,7 @@ pub enum Source {
 pub struct Located {
     /// The layer, from 0 at the base.
     pub layer: u64,
+    /// The source in this layer.
     pub source: Source,
 }
 

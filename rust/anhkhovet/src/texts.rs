@@ -9,9 +9,11 @@ const MOST_EXTENTS: usize = 32;
 /// What a descriptor says.
 #[derive(Clone, Debug, PartialEq, Eq, Hash)]
 pub struct Descriptor {
+    /// 1 to 3.
     pub version: u64,
+    /// The content's identifier, 32 bits.
     pub cid: u64,
-    /// 0xffff_ffff where there is no parent.
+    /// That of the parent; 0xffff_ffff where there is no parent.
     pub parent_cid: u64,
     /// Where createType's value stands in the text, without its quotes.
     pub create_type: Range<usize>,
@@ -24,8 +26,11 @@ pub struct Descriptor {
 pub struct Extent {
     /// The first virtual sector that it holds.
     pub first: u64,
+    /// How many.
     pub sectors: u64,
+    /// How it may be used.
     pub access: Access,
+    /// What holds it.
     pub kind: ExtentKind,
     /// Where the name stands in the text, without its quotes; empty where there is none.
     pub name: Range<usize>,
@@ -36,18 +41,26 @@ pub struct Extent {
 /// How an extent may be used.
 #[derive(Clone, Copy, Debug, PartialEq, Eq, Hash)]
 pub enum Access {
+    /// RW.
     ReadWrite = 1,
+    /// RDONLY.
     ReadOnly = 2,
+    /// NOACCESS.
     None = 3,
 }
 
 /// What holds an extent's sectors.
 #[derive(Clone, Copy, Debug, PartialEq, Eq, Hash)]
 pub enum ExtentKind {
+    /// FLAT: a file, sector by sector.
     Flat = 1,
+    /// VMFS: the same, on another file system.
     Vmfs = 2,
+    /// SPARSE: a KDMV image.
     Sparse = 3,
+    /// VMFSSPARSE: a COWD image.
     VmfsSparse = 4,
+    /// ZERO: nothing, it reads as zeros.
     Zero = 5,
 }
 

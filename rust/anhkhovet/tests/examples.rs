@@ -1,5 +1,5 @@
-//! The examples of the documentation, run as tests: cargo runs no examples of documentation in a build for another machine's
-//! code, as that on Arm is.
+//! The examples of the documentation, run as tests: cargo before 1.89 runs none of them in a build for another processor, as that
+//! on Arm is.
 
 macro_rules! examples {
     ($($name:ident $file:literal)*) => {

@@ -2,10 +2,8 @@
 
 mod common;
 
-use common::{run, tool, Folder, Ran};
+use common::{run, Folder, Ran};
 use std::fs;
-use std::io::Write;
-use std::process::Stdio;
 
 const FILES: [&str; 2] = ["tool-base.vmdk", "tool-packed.vmdk"];
 
@@ -230,57 +228,4 @@ fn lines_of_no_form_and_past_the_end_are_told_and_the_rest_compared() {
         &compare(&folder, FILES[0], b"# nothing\n", &[]),
         &["list: there is no line to compare with; 2048 of the disk's 2048 sectors are left out"],
     );
-}
-
-/// An image, a line without end, a zero byte: told at the first line, and nothing after it is read.
-#[test]
-fn what_is_no_text_is_told_at_its_first_line() {
-    let folder = Folder::new().with(&FILES);
-    let image = fs::read(folder.at(FILES[0])).expect("a sample");
-    let long = vec![b'1'; 1 << 20];
-    let wide = [b"\xff\xfe0\0 \0".as_slice(), b"1\0\n\0"].concat();
-    let zero = [b"1000 \0".as_slice(), ZEROS.as_bytes()].concat();
-    for list in [&image[..], &long, &wide, &zero] {
-        fails(
-            &compare(&folder, FILES[0], list, &[]),
-            &[
-                "list: line 1 is no line of text, so this is no list, and the rest is not looked at",
-                "list: 1 of 1 lines fail; 2048 of the disk's 2048 sectors are left out",
-            ],
-        );
-    }
-}
-
-#[test]
-fn a_list_on_standard_input() {
-    let folder = Folder::new().with(&FILES);
-    let mut child = tool(folder.path())
-        .args(["digest", FILES[0], "--list", "-"])
-        .stdin(Stdio::piped())
-        .stdout(Stdio::piped())
-        .stderr(Stdio::piped())
-        .spawn()
-        .expect("the tool starts");
-    let mut input = child.stdin.take().expect("a pipe");
-    writeln!(input, "1000 {ZEROS}\n0 {ZEROS}").expect("written");
-    drop(input);
-    let ran = Ran::of(child.wait_with_output().expect("it ends"));
-    assert_eq!(ran.status, Some(3));
-    let text = ran.text();
-    assert!(
-        text.starts_with("-: line 2: sector 0 differs: the list has 076a"),
-        "{text}"
-    );
-    assert!(text.ends_with("-: 1 of 2 lines fail; 2046 of the disk's 2048 sectors are left out\n"));
-}
-
-#[test]
-fn a_list_that_cannot_be_read_is_status_4() {
-    let folder = Folder::new().with(&FILES);
-    for (list, told) in [
-        (".", ".: cannot be read: Is a directory"),
-        ("nowhere", "nowhere: cannot be opened: No such file"),
-    ] {
-        run(folder.path(), &["digest", FILES[0], "--list", list]).ill(told);
-    }
 }

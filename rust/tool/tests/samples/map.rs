@@ -1,5 +1,7 @@
 //! What `qemu-img map --output=json` said of a sample, as samples/make stores it in NAME.map.
 
+use serde_json::Value;
+
 /// A run of bytes of the disk.
 #[derive(Debug)]
 pub struct Run {
@@ -14,14 +16,11 @@ pub struct Run {
     pub offset: Option<u64>,
 }
 
-/// The runs, which follow each other without a gap. There is one to a line.
-pub fn runs(text: &str) -> Vec<Run> {
-    let mut end = 0;
-    let mut runs = Vec::new();
-    for line in text.lines() {
-        let number = |key| field(line, key).and_then(|value| value.parse().ok());
-        let truth = |key| field(line, key) == Some("true");
-        let run = Run {
+impl Run {
+    fn of(object: &Value) -> Run {
+        let number = |key| object.get(key).and_then(Value::as_u64);
+        let truth = |key: &str| object[key].as_bool().unwrap();
+        Run {
             start: number("start").unwrap(),
             length: number("length").unwrap(),
             depth: number("depth").unwrap(),
@@ -29,16 +28,18 @@ pub fn runs(text: &str) -> Vec<Run> {
             zero: truth("zero"),
             data: truth("data"),
             offset: number("offset"),
-        };
-        assert_eq!(run.start, end);
-        end += run.length;
-        runs.push(run);
+        }
     }
-    runs
 }
 
-/// The value that stands after a key.
-fn field<'a>(line: &'a str, key: &str) -> Option<&'a str> {
-    let (_, rest) = line.split_once(&format!("\"{key}\": "))?;
-    rest.split([',', '}']).next()
+/// The runs, which follow each other without a gap.
+pub fn runs(text: &str) -> Vec<Run> {
+    let list: Vec<Value> = serde_json::from_str(text).unwrap();
+    let runs: Vec<Run> = list.iter().map(Run::of).collect();
+    let mut end = 0;
+    for run in &runs {
+        assert_eq!(run.start, end);
+        end += run.length;
+    }
+    runs
 }

@@ -1,57 +1,61 @@
 //! The samples: every sector of each is looked up and read through the proved library, and compared with what qemu-img said
 //! and read (samples/make stores it).
 
-mod support;
+mod disk;
+mod map;
+mod raw;
 
-use anhkhovet::raw::{self, Located};
-use plain::{ABSENT, PACKED, STORED, ZERO};
-use support::disk::{bytes, path, text, Extent, Reader, SECTOR};
-use support::map::{runs, Run};
-use support::raw::Raw;
+use anhkhovet::{collapse, descriptor, find, header, normal, Located, Refusal, Source, SECTOR};
+use disk::{bytes, path, text, Extent, Reader};
+use map::{runs, Run};
+use raw::Raw;
 
-/// The records of a descriptor.
-fn records_of(text: &[u8]) -> Vec<raw::Extent> {
-    let mut records = vec![raw::Extent::default(); 32];
-    let described = raw::descriptor(text, &mut records);
-    assert_eq!(described.number, 0);
-    records.truncate(described.extents as usize);
-    records
+fn refused<T>(number: u64) -> Result<T, Refusal> {
+    Err(Refusal { number, place: 0 })
+}
+
+/// The number of a source's kind: absent, zero, stored, packed.
+fn kind(source: Source) -> usize {
+    match source {
+        Source::Absent => 0,
+        Source::Zero => 1,
+        Source::Stored { .. } => 2,
+        Source::Packed { .. } => 3,
+    }
 }
 
 /// The extents of a disk whose descriptor is a file of its own.
 fn described(name: &str) -> Vec<Extent> {
     let text = bytes(&format!("{name}.vmdk"));
-    let records = records_of(&text);
+    let records = descriptor(&text).unwrap().extents;
     let mut extents = Vec::new();
     for (number, record) in records.iter().enumerate() {
-        let from = record.name_at as usize;
-        let file = text[from..from + record.name_length as usize].to_vec();
+        let file = text[record.name.clone()].to_vec();
         let extent = Extent::new(&[String::from_utf8(file).unwrap()]);
         assert_eq!(extent.sectors, record.sectors, "{name}");
         for sector in [record.first, record.first + record.sectors - 1] {
-            assert_eq!(raw::find(&records, sector).extent, number as u64, "{name}");
+            assert_eq!(find(&records, sector), Ok(number), "{name}");
         }
         extents.push(extent);
     }
     let end = extents.iter().map(|extent| extent.sectors).sum();
-    assert_eq!(raw::find(&records, end).number, 20, "{name}");
+    assert_eq!(find(&records, end), refused(20), "{name}");
     extents
 }
 
 /// Whether the library's answer for a sector is what the map has at a byte of the disk.
 fn same_source(located: &Located, run: &Run, byte: u64, layers: u64) -> bool {
-    let kind = match (run.present, run.zero, run.data, run.offset) {
-        (false, true, false, None) => ABSENT,
-        (true, true, false, None) => ZERO,
-        (true, false, true, Some(_)) => STORED,
-        (true, false, true, None) => PACKED,
+    let same = match (run.present, run.zero, run.data, run.offset) {
+        (false, true, false, None) => located.source == Source::Absent,
+        (true, true, false, None) => located.source == Source::Zero,
+        (true, false, true, Some(offset)) => {
+            let sector = (offset + byte - run.start) / SECTOR;
+            located.source == Source::Stored { sector }
+        }
+        (true, false, true, None) => matches!(located.source, Source::Packed { .. }),
         _ => panic!("no such run: {run:?}"),
     };
-    let stands = match run.offset {
-        Some(offset) => located.sector * SECTOR == offset + byte - run.start,
-        None => true,
-    };
-    located.number == 0 && located.kind == kind && located.layer + run.depth + 1 == layers && stands
+    same && located.layer + run.depth + 1 == layers
 }
 
 /// Looks up and reads every sector of a disk, and compares what it reads; `see` is told the byte of the disk and the answer.
@@ -60,9 +64,10 @@ fn walk(name: &str, extents: &[Extent], mut see: impl FnMut(u64, &Extent, &Locat
     let mut raw = Raw::new(name, &digests);
     let mut reader = Reader::default();
     for extent in extents {
-        assert_eq!(extent.look(extent.sectors).number, 20, "{name}");
+        let past = extent.look(extent.sectors).map_err(|why| why.refusal);
+        assert_eq!(past, refused(20), "{name}");
         for sector in 0..extent.sectors {
-            let located = extent.look(sector);
+            let located = extent.look(sector).unwrap();
             see(raw.at(), extent, &located);
             raw.push(reader.read(extent, sector, &located));
         }
@@ -83,7 +88,7 @@ fn walk_with_map(name: &str, extents: &[Extent]) -> [u64; 4] {
             same_source(located, run, byte, extent.height()),
             "{name}, byte {byte}: {located:?} and {run:?}"
         );
-        counts[located.kind as usize] += 1;
+        counts[kind(located.source)] += 1;
     });
     runs.next();
     assert!(
@@ -145,21 +150,21 @@ fn disks_of_extents() {
 fn collapsed_chains() {
     for (name, under, counts) in DISKS {
         let layers: Vec<Vec<u8>> = files(name, under).iter().map(|file| bytes(file)).collect();
-        if counts[PACKED as usize] > 0 || name.starts_with("stream") {
-            assert_eq!(raw::normal(&layers[0], &mut []).number, 23, "{name}");
+        let [.., packed] = counts;
+        if packed > 0 || name.starts_with("stream") {
+            assert_eq!(normal(&layers[0], &mut []), refused(23), "{name}");
             continue;
         }
         let mut out = vec![0; 1 << 20];
-        let written = raw::normal(&layers[0], &mut out);
-        let mut one = out[..written.length as usize].to_vec();
+        let length = normal(&layers[0], &mut out).unwrap();
+        let mut one = out[..length as usize].to_vec();
         for upper in &layers[1..] {
-            let written = raw::collapse(&one, upper, &mut out);
-            assert_eq!(written.number, 0, "{name}");
-            one = out[..written.length as usize].to_vec();
+            let length = collapse(&one, upper, &mut out).unwrap();
+            one = out[..length as usize].to_vec();
         }
         let mut seen = [0; 4];
         walk(name, &[Extent::of(&[one])], |_, _, located| {
-            seen[located.kind as usize] += 1
+            seen[kind(located.source)] += 1
         });
         assert_eq!(seen, counts, "{name}");
     }
@@ -170,17 +175,78 @@ fn collapsed_chains() {
 fn descriptors() {
     for (name, _, _) in DISKS {
         let image = bytes(&format!("{name}.vmdk"));
-        let head = raw::header(&image);
+        let head = header(&image).unwrap();
         let from = head.descriptor * SECTOR;
         let area = &image[from as usize..(from + head.descriptor_sectors * SECTOR) as usize];
+        let sectors = descriptor(area).map(|said| {
+            let extents = said.extents.iter();
+            extents.map(|extent| extent.sectors).collect::<Vec<u64>>()
+        });
         if name == "vmdkstream" {
-            assert_eq!(raw::descriptor(area, &mut []).number, 30, "{name}");
+            assert_eq!(sectors, refused(30), "{name}");
         } else {
-            let sectors: Vec<u64> = records_of(area)
-                .iter()
-                .map(|record| record.sectors)
-                .collect();
-            assert_eq!(sectors, [head.capacity], "{name}");
+            assert_eq!(sectors, Ok(vec![head.disk.capacity]), "{name}");
+        }
+    }
+}
+
+/// The areas of an image but its grains, as the library lists them.
+fn frame(image: &[u8]) -> Vec<[u64; 3]> {
+    let mut list = [0; 96];
+    let framed = raw::frame(image, &mut list);
+    assert_eq!(framed.number, 0);
+    let areas = list.chunks(3).take(framed.count as usize);
+    areas.map(|area| [area[0], area[1], area[2]]).collect()
+}
+
+/// qemu-img lays all its images out alike; VMDKstream has a footer, and COWD another layout.
+#[test]
+fn frames() {
+    let qemu = [
+        [1, 0, 1],
+        [2, 1, 20],
+        [3, 26, 1],
+        [4, 21, 1],
+        [5, 27, 4],
+        [6, 22, 4],
+    ];
+    let stream = [
+        [1, 0, 1],
+        [2, 1, 1],
+        [3, 141, 1],
+        [5, 136, 4],
+        [7, 143, 1],
+        [8, 144, 1],
+    ];
+    for (name, _, _) in DISKS {
+        let expected = if name == "vmdkstream" { stream } else { qemu };
+        assert_eq!(frame(&bytes(&format!("{name}.vmdk"))), expected, "{name}");
+    }
+    let cowd = [[1, 0, 4], [3, 4, 1], [5, 5, 32]];
+    assert_eq!(frame(&bytes("cowd-s001.vmdk")), cowd);
+}
+
+/// Of an image without packed grains the frame alone, zeros elsewhere, has the same check, lookups and frame.
+#[test]
+fn frames_decide() {
+    for (name, _, counts) in DISKS {
+        let image = bytes(&format!("{name}.vmdk"));
+        let mut alone = vec![0; image.len()];
+        for [_, first, sectors] in frame(&image) {
+            let part = (first * SECTOR) as usize..((first + sectors) * SECTOR) as usize;
+            alone[part.clone()].copy_from_slice(&image[part]);
+        }
+        assert_eq!(frame(&alone), frame(&image), "{name}");
+        if counts[PACKED as usize] > 0 {
+            // What is left of a packed grain is a marker of zeros.
+            assert_eq!(raw::check(&alone).number, 10, "{name}");
+            continue;
+        }
+        let verdict = raw::check(&image);
+        assert_eq!(raw::check(&alone), verdict, "{name}");
+        for sector in 0..=verdict.capacity {
+            let located = raw::lookup(&image, sector);
+            assert_eq!(raw::lookup(&alone, sector), located, "{name} {sector}");
         }
     }
 }

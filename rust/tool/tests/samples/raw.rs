@@ -1,7 +1,7 @@
 //! The raw disk as it comes together from the library's answers, compared with what `qemu-img convert` made: the file
 //! NAME.raw.sha256 has the disk's length, then place, length and digest of each chunk that is not all zero.
 
-use super::sha256::digest;
+use sha2::{Digest, Sha256};
 
 const CHUNK: usize = 65_536;
 
@@ -49,7 +49,8 @@ impl<'a> Raw<'a> {
     fn compare(&mut self) {
         let start = self.at - self.chunk.len() as u64;
         if self.stored && self.chunk.iter().any(|byte| *byte != 0) {
-            let line = format!("{start} {} {}", self.chunk.len(), digest(&self.chunk));
+            let digest = Sha256::digest(&self.chunk);
+            let line = format!("{start} {} {digest:x}", self.chunk.len());
             assert_eq!(self.wanted.next(), Some(&line[..]), "{}", self.name);
         } else {
             let start = format!("{start} ");

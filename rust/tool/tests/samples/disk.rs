@@ -1,12 +1,10 @@
 //! A sample disk, looked up and read through the proved library.
 
-use super::inflate::inflate;
-use anhkhovet::raw::{self, Located};
-use plain::{PACKED, STORED};
+use anhkhovet::{chain, check, header, lookup, read, ChainRefusal, Located, Source, SECTOR};
+use flate2::read::ZlibDecoder;
 use std::fs;
+use std::io::Read;
 use std::path::PathBuf;
-
-pub const SECTOR: u64 = 512;
 
 pub fn path(name: &str) -> PathBuf {
     PathBuf::from(concat!(env!("CARGO_MANIFEST_DIR"), "/../../samples")).join(name)
@@ -36,13 +34,12 @@ impl Extent {
 
     /// The chain of these images, each of which is accepted.
     pub fn of(layers: &[Vec<u8>]) -> Extent {
-        let sectors = raw::header(&layers[0]).capacity;
+        let disk = header(&layers[0]).unwrap().disk;
         for layer in layers {
-            let verdict = raw::check(layer);
-            assert_eq!((verdict.number, verdict.capacity), (0, sectors));
+            assert_eq!(check(layer), Ok(disk));
         }
         Extent {
-            sectors,
+            sectors: disk.capacity,
             layers: layers.concat(),
             lengths: layers.iter().map(|layer| layer.len() as u64).collect(),
         }
@@ -60,10 +57,12 @@ impl Extent {
     }
 
     /// The chain's answer, which for one layer is the lookup's.
-    pub fn look(&self, sector: u64) -> Located {
-        let located = raw::chain(&self.layers, &self.lengths, sector);
+    pub fn look(&self, sector: u64) -> Result<Located, ChainRefusal> {
+        let located = chain(&self.layers, &self.lengths, sector);
         if self.height() == 1 {
-            assert_eq!(located, raw::lookup(&self.layers, sector));
+            let source = located.map(|located| located.source);
+            let source = source.map_err(|refused| refused.refusal);
+            assert_eq!(source, lookup(&self.layers, sector));
         }
         located
     }
@@ -84,20 +83,25 @@ impl Reader {
         sector: u64,
         at: &Located,
     ) -> Option<&'a [u8]> {
-        let part = anhkhovet::read(extent.layer(at.layer), sector);
-        match at.kind {
-            STORED => Some(part),
-            PACKED => {
-                if self.unpacked != Some((at.layer, at.sector)) {
-                    self.unpacked = Some((at.layer, at.sector));
-                    self.bytes = inflate(part);
-                }
-                let from = (at.offset * SECTOR) as usize;
-                Some(&self.bytes[from..from + SECTOR as usize])
-            }
-            _ => {
+        let part = read(extent.layer(at.layer), sector);
+        match at.source {
+            Source::Absent | Source::Zero => {
                 assert!(part.is_empty());
                 None
+            }
+            Source::Stored { .. } => Some(part),
+            Source::Packed {
+                sector: marker,
+                offset,
+                ..
+            } => {
+                if self.unpacked != Some((at.layer, marker)) {
+                    self.unpacked = Some((at.layer, marker));
+                    self.bytes.clear();
+                    ZlibDecoder::new(part).read_to_end(&mut self.bytes).unwrap();
+                }
+                let from = (offset * SECTOR) as usize;
+                Some(&self.bytes[from..from + SECTOR as usize])
             }
         }
     }
