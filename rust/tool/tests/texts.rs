@@ -54,7 +54,7 @@ fn a_text_of_a_tebibyte_needs_little_room() {
     let folder = Folder::new();
     text(&folder, TEXT, long());
     let output = Command::new("sh")
-        .args(["-c", "ulimit -v 100000 && exec \"$0\" describe text", TOOL])
+        .args(["-c", "ulimit -v 1000000 && exec \"$0\" describe text", TOOL])
         .current_dir(folder.path())
         .output();
     Ran::of(output.expect("a shell")).ended(1, "text: refused 36: ");
