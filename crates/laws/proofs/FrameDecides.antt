@@ -38,7 +38,8 @@ use Rattle.laws.proofs.UsedChain.{used-chain}
 use Rattle.laws.proofs.UsedCollapse.{used-collapse, used-normal}
 
 -- ---- an image that has a frame has a header
-listed-known : (s : List ℕ) (room count : ℕ) (a : HeaderAnswer) → frameFrom s room a ≡ Listed count → (h : Header) × (a ≡ Known h)
+listed-known : (s : List ℕ) (room count : ℕ) (a : HeaderAnswer) → frameFrom s room a ≡ Listed count
+    → (h : Header) × (a ≡ Known h)
 unfolding frameFrom
 listed-known s room count (unknown r) e = let z : _≡_ {A = ℕ} 0 1 = cc in absurd (omega arith)
 listed-known s room count (Known h) e = (h, refl)
@@ -85,7 +86,8 @@ groups s t h all =
 module _ (s t : List ℕ) (h : Header) (sound : Sound h) (directory : ℕ)
     (own : SameBytes s t (512 * directory) (512 * h .«directory_sectors»))
     (tables : SameAreas s t (tableAreas s (h .«one_is_zero») (h .«table_sectors») directory (directoryEntriesOf h))) where
-  entry : (u sectors k : ℕ) → SameBytes s t (512 * u) (512 * sectors) → 4 * k + 4 ≤ 512 * sectors → entryAt s u k ≡ entryAt t u k
+  entry : (u sectors k : ℕ) → SameBytes s t (512 * u) (512 * sectors) → 4 * k + 4 ≤ 512 * sectors
+      → entryAt s u k ≡ entryAt t u k
   entry u sectors k same l =
       number-same s t (512 * u + 4 * k) 4
       (within s t (512 * u) (512 * sectors) (512 * u + 4 * k) 4 same (omega arith) (omega arith))
@@ -94,7 +96,8 @@ module _ (s t : List ℕ) (h : Header) (sound : Sound h) (directory : ℕ)
   tables-decide = record {
     entries = λ i d l. entry directory (h .«directory_sectors») d own (omega (arith, sound .directory));
     tables = λ d u l e i k b.
-        let row = areas-row s t _ (λ j. named (λ x. h .«table_sectors») (meaningAt s (h .«one_is_zero») directory j)) tables d l in
+        let row =
+        areas-row s t _ (λ j. named (λ x. h .«table_sectors») (meaningAt s (h .«one_is_zero») directory j)) tables d l in
         entry u (h .«table_sectors») k (area-named s t (λ x. h .«table_sectors») u (rw e at row)) (omega (arith, sound .table));
   }
 
@@ -102,7 +105,7 @@ module _ (s t : List ℕ) (h : Header) (sound : Sound h) (directory : ℕ)
 module _ (s t : List ℕ) (both : SameFrame s t) where
   known : judge s ≡ Known (headerOf s)
   known =
-      let r = listed-known s (both .room) (both .count) (judge s) (both .listed) in
+      let r = listed-known s (both .room) (both .listCount) (judge s) (both .listed) in
       r .1 ∙ ap Known (judged-header s (r .0) (r .1))
 
   parts : SameGroups s t (headerOf s)
@@ -164,7 +167,8 @@ module _ (s t : List ℕ) (both : SameFrame s t) where
   frame-decides-normal = used-normal s t decides
 
 -- s and t are the lower images, u and v the upper ones
-pub frame-decides-collapse : (s t u v : List ℕ) → SameFrame s t → SameFrame u v → (room : ℕ) → collapse s u room ≡ collapse t v room
+pub frame-decides-collapse : (s t u v : List ℕ) → SameFrame s t → SameFrame u v → (room : ℕ)
+    → collapse s u room ≡ collapse t v room
 frame-decides-collapse s t u v low up = used-collapse s t u v (decides s t low) (decides u v up)
 
 pub frame-decides-chain : (s t lengths : List ℕ) → SameFrames s t lengths → (x : ℕ) → chainLookup s lengths x

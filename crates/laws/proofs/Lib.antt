@@ -48,5 +48,6 @@ pub mod ExamplesChain
 pub mod ExamplesCheck
 pub mod ExamplesCollapse
 pub mod ExamplesFooter
+pub mod ExamplesFrame
 pub mod ExamplesHeader
 pub mod ExamplesLookup

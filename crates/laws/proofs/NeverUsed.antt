@@ -113,5 +113,6 @@ module _ (s t : List ℕ) (both : SameSectors s t) where
   never-used-read x = rw (← never-used-header) (bytes-same (from-served (judge s) refl x))
 
 -- ---- and so each layer of a chain
-pub never-used-chain : (s t lengths : List ℕ) → SameLayers s t lengths → (x : ℕ) → chainLookup s lengths x ≡ chainLookup t lengths x
+pub never-used-chain : (s t lengths : List ℕ) → SameLayers s t lengths → (x : ℕ)
+    → chainLookup s lengths x ≡ chainLookup t lengths x
 never-used-chain s t lengths both = used-chain s t lengths (both .long) (λ k l. never-used _ _ (both .each k l))

@@ -64,6 +64,7 @@ module _ (s t : List ℕ) where
   unfolding ifThere pick
   area-there there a h e = (rw e at h) .0
 
-  pub area-named : (sectors : ℕ → ℕ) (e : ℕ) → SameAreas s t (named sectors (Sector e)) → SameBytes s t (512 * e) (512 * sectors e)
+  pub area-named : (sectors : ℕ → ℕ) (e : ℕ) → SameAreas s t (named sectors (Sector e))
+      → SameBytes s t (512 * e) (512 * sectors e)
   unfolding named
   area-named sectors e h = h .0

@@ -1,5 +1,5 @@
--- What a header is read from: the first sector and, where there is a footer, the last two. Images of one length that agree there
--- have the same header.
+-- What a header is read from: the first sector and, where there is a footer, the last two. Images of one length that agree
+-- there have the same header.
 use Prim.Native.Nat.{ℕ, _+_, _≤_}
 use mathlib.Core.Path.{_≡_, refl}
 use mathlib.Core.List.{List}
@@ -67,7 +67,8 @@ module _ (s t : List ℕ) (both : SameHead s t) where
     footer-directory : footerDirectory s ≡ footerDirectory t
     footer-directory =
         rw (
-          number-same s t (footerAt s + 56) 8 (within s t (footerAt s) 512 (footerAt s + 56) 8 foot (omega arith) (omega arith)),
+          number-same s t (footerAt s + 56) 8
+              (within s t (footerAt s) 512 (footerAt s + 56) 8 foot (omega arith) (omega arith)),
           both .long,
         )
 
@@ -93,12 +94,14 @@ module _ (s t : List ℕ) (both : SameHead s t) where
     directory-same : directoryOf s (kdmvFields s) ≡ directoryOf t (kdmvFields s)
     unfolding directoryOf
     directory-same =
-        pick-both _≡_ (atEnd (kdmvFields s)) _ _ _ _ (λ e. let r = both .tail kdmv e in footer-directory (r .0) (r .1)) (λ n. refl)
+        pick-both _≡_ (atEnd (kdmvFields s)) _ _ _ _ (λ e. let r = both .tail kdmv e in footer-directory (r .0) (r .1))
+        (λ n. refl)
 
     with-footer-same : (h : Header) → withFooter s (atEnd (kdmvFields s)) h ≡ withFooter t (atEnd (kdmvFields s)) h
     unfolding withFooter
     with-footer-same h =
-        pick-both _≡_ (atEnd (kdmvFields s)) _ _ _ _ (λ e. let r = both .tail kdmv e in rw (footer-same (r .0) (r .1))) (λ n. refl)
+        pick-both _≡_ (atEnd (kdmvFields s)) _ _ _ _ (λ e. let r = both .tail kdmv e in rw (footer-same (r .0) (r .1)))
+        (λ n. refl)
 
     judge-kdmv-same : judgeKdmv s ≡ judgeKdmv t
     unfolding judgeKdmv

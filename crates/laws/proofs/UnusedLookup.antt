@@ -117,7 +117,8 @@ module _ (s t : List ℕ) (h : Header) (sound : Sound h) (same : SameInUse s t h
       onward-found low i =
           let g = x / h .«grain_size» in
           let used : g < grainsOf h = grain-of (h .capacity) (h .«grain_size») (sound .sizes .low) x low in
-          let d = entry-used (h .capacity) (h .«grain_size») (sound .sizes .low) (h .«entries_per_table») (sound .some) g used in
+          let d =
+          entry-used (h .capacity) (h .«grain_size») (sound .sizes .low) (h .«entries_per_table») (sound .some) g used in
           rw (← same .primary .entries i (g / h .«entries_per_table») d)
           (table-found g _ used (mod-lt x (sound .sizes .low)) _ refl)
 

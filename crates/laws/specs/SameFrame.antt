@@ -26,8 +26,8 @@ SameAreas s t (a ∷ l) = (SameBytes s t (512 * a .first) (512 * a .sectorCount)
 -- marker of each grain that starts in the file
 pub record SameFrame (s t : List ℕ) : Type 0 where
   pub room : ℕ
-  pub count : ℕ
-  pub listed : frame s room ≡ Listed count
+  pub listCount : ℕ
+  pub listed : frame s room ≡ Listed listCount
   pub long : length s ≡ length t
   pub areas : SameAreas s t (frameAreas s (headerOf s))
   pub markers : headerOf s .packed ≡ true → (g e : ℕ) → g < grainsOf (headerOf s) → grainEntry s (headerOf s) g ≡ Sector e

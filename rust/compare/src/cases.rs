@@ -4,7 +4,7 @@ use crate::image::{build, damage, suited, Built, Plan, Shape};
 use crate::rng::Rng;
 use crate::run::Run;
 use crate::tally::Call;
-use crate::{lists, text};
+use crate::{frames, lists, text};
 use plain::Extent;
 
 /// The numbers on a program's command line: COUNT, SEED and first CASE.
@@ -89,6 +89,9 @@ fn image_case(run: &mut Run, rng: &mut Rng, which: u64) {
     if run.compares(Call::Normal) {
         let needed = needed(&built, || plain::normal(image, usize::MAX));
         run.normal(image, room(rng, needed));
+    }
+    if run.compares(Call::Frame) {
+        frames::case(run, rng, image);
     }
     run.unchanged(Call::Check, &before, image);
 }

@@ -1,5 +1,6 @@
 //! Images of more than 4 GiB, nearly all of it never touched: areas about file sectors 2^22 and 2^23, and past them.
 
+use crate::frames;
 use crate::image::put;
 use crate::rng::Rng;
 use crate::run::Run;
@@ -81,6 +82,7 @@ fn far_case(run: &mut Run, memory: &mut [u8], rng: &mut Rng) {
         run.lookup(image, rng.below(capacity));
         run.read(image, rng.below(capacity));
     }
+    frames::ask(run, rng, image);
     for (at, size) in touched {
         memory[at..at + size].fill(0);
     }

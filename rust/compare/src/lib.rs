@@ -2,6 +2,7 @@
 
 pub mod cases;
 pub mod far;
+mod frames;
 mod image;
 mod lists;
 pub mod rng;

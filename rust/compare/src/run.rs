@@ -12,7 +12,7 @@ const MOST_SAVED: u64 = 20;
 
 pub struct Run<'a> {
     /// The side under test, and the one that it is compared with.
-    sides: [&'a dyn Side; 2],
+    pub(crate) sides: [&'a dyn Side; 2],
     pub tally: Tally,
     folder: PathBuf,
     /// What a report names, so that a case can be run again.
@@ -44,7 +44,7 @@ impl<'a> Run<'a> {
     }
 
     /// Counts one comparison. `lent` says whether the lent memory is alike afterwards.
-    fn compare<T: Debug + PartialEq>(
+    pub(crate) fn compare<T: Debug + PartialEq>(
         &mut self,
         call: Call,
         answers: [&T; 2],
@@ -101,7 +101,7 @@ impl<'a> Run<'a> {
     }
 
     /// Rows of an accepted image, by what its header has.
-    fn count_accepted(&mut self, call: Call, verdict: Verdict, image: &[u8]) {
+    pub(crate) fn count_accepted(&mut self, call: Call, verdict: Verdict, image: &[u8]) {
         if verdict.number != 0 {
             self.tally.refused(call, verdict.number);
             return;

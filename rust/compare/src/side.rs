@@ -1,6 +1,6 @@
 //! The two sides behind one trait. Answers are the plain side's structs.
 
-use plain::{Described, Extent, Found, Head, Located, Part, Verdict, Written};
+use plain::{Described, Extent, Found, Framed, Head, Located, Part, Verdict, Written};
 
 pub trait Side {
     fn check(&self, image: &[u8]) -> Verdict;
@@ -8,6 +8,7 @@ pub trait Side {
     fn lookup(&self, image: &[u8], sector: u64) -> Located;
     fn chain(&self, layers: &[u8], lengths: &[u64], sector: u64) -> Located;
     fn read(&self, image: &[u8], sector: u64) -> Part;
+    fn frame(&self, image: &[u8], list: &mut [u64]) -> Framed;
     fn normal(&self, image: &[u8], out: &mut [u8]) -> Written;
     fn collapse(&self, lower: &[u8], upper: &[u8], out: &mut [u8]) -> Written;
     fn descriptor(&self, text: &[u8], list: &mut [Extent]) -> Described;
@@ -32,6 +33,9 @@ impl Side for Plain {
     }
     fn read(&self, image: &[u8], sector: u64) -> Part {
         plain::read(image, sector)
+    }
+    fn frame(&self, image: &[u8], list: &mut [u64]) -> Framed {
+        plain::frame(image, list)
     }
     fn normal(&self, image: &[u8], out: &mut [u8]) -> Written {
         plain::over(plain::normal(image, out.len()), out)
@@ -80,6 +84,9 @@ mod proved {
         }
         fn read(&self, image: &[u8], sector: u64) -> Part {
             same!(raw::read_part(image, sector) => Part { at, length })
+        }
+        fn frame(&self, image: &[u8], list: &mut [u64]) -> Framed {
+            same!(raw::frame(image, list) => Framed { number, place, count })
         }
         fn normal(&self, image: &[u8], out: &mut [u8]) -> Written {
             same!(raw::normal(image, out) => Written { number, place, length })

@@ -9,6 +9,7 @@ pub enum Call {
     Lookup,
     Chain,
     Read,
+    Frame,
     Normal,
     Collapse,
     Descriptor,
@@ -17,12 +18,13 @@ pub enum Call {
 
 use Call::*;
 
-const CALLS: [(Call, &str); 9] = [
+const CALLS: [(Call, &str); 10] = [
     (Check, "check"),
     (Header, "header"),
     (Lookup, "lookup"),
     (Chain, "chain"),
     (Read, "read"),
+    (Frame, "frame"),
     (Normal, "normal"),
     (Collapse, "collapse"),
     (Descriptor, "descriptor"),
@@ -37,23 +39,25 @@ impl Call {
 }
 
 /// Kinds of answers, with the calls that can give them.
-const ANSWERS: [(&str, &[Call]); 19] = [
-    ("accepted KDMV", &[Check, Header]),
-    ("accepted COWD", &[Check, Header]),
-    ("accepted, footer", &[Check, Header]),
-    ("accepted, redundant", &[Check, Header]),
-    ("accepted, descriptor", &[Check, Header]),
-    ("accepted, packed", &[Check, Header]),
-    ("accepted, n above 1", &[Check, Header]),
-    ("accepted, odd length", &[Check, Header]),
+const ANSWERS: [(&str, &[Call]); 21] = [
+    ("accepted KDMV", &[Check, Header, Frame]),
+    ("accepted COWD", &[Check, Header, Frame]),
+    ("accepted, footer", &[Check, Header, Frame]),
+    ("accepted, redundant", &[Check, Header, Frame]),
+    ("accepted, descriptor", &[Check, Header, Frame]),
+    ("accepted, packed", &[Check, Header, Frame]),
+    ("accepted, n above 1", &[Check, Header, Frame]),
+    ("accepted, odd length", &[Check, Header, Frame]),
     ("absent", &[Lookup, Chain]),
     ("zero", &[Lookup, Chain]),
     ("stored", &[Lookup, Chain, Read]),
     ("packed", &[Lookup, Chain, Read]),
     ("under the top layer", &[Chain]),
     ("empty part", &[Read]),
-    ("written, exact room", &[Normal, Collapse]),
-    ("written, room left", &[Normal, Collapse]),
+    ("no table", &[Frame]),
+    ("refused by the check", &[Frame]),
+    ("written, exact room", &[Frame, Normal, Collapse]),
+    ("written, room left", &[Frame, Normal, Collapse]),
     ("described", &[Descriptor]),
     ("described, 32 extents", &[Descriptor]),
     ("found", &[Find]),
@@ -67,6 +71,7 @@ fn gives(number: u64, call: Call) -> bool {
         Lookup => (1..=10).contains(&number) || number == 20,
         Chain => (1..=10).contains(&number) || [20, 22, 24].contains(&number),
         Read => false,
+        Frame => (1..=8).contains(&number) || number == 21,
         Normal => (1..=12).contains(&number) || [21, 23].contains(&number),
         Collapse => (1..=12).contains(&number) || (21..=23).contains(&number),
         Descriptor => (30..=36).contains(&number) || number == 21,

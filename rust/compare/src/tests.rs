@@ -3,7 +3,9 @@
 use crate::image::{build, suited, unused, Built, Cell, Plan, Shape, What};
 use crate::rng::Rng;
 use crate::text;
-use plain::{check, collapse, descriptor, lookup, normal, read, ABSENT, PACKED, STORED, ZERO};
+use plain::{
+    check, collapse, descriptor, frame, lookup, normal, read, ABSENT, PACKED, STORED, ZERO,
+};
 use std::collections::BTreeSet;
 
 fn sound(rng: &mut Rng, plan: Plan) -> Built {
@@ -71,6 +73,43 @@ fn lookups_find_what_was_built() {
             assert_eq!(located.sector, place.map_or(0, |area| area.first), "{case}");
         }
     }
+}
+
+/// An area's group and, inside the group, its directory entry; a grain has none.
+fn group(what: What) -> Option<(u64, u64)> {
+    match what {
+        What::Header => Some((1, 0)),
+        What::Descriptor => Some((2, 0)),
+        What::Directory => Some((3, 0)),
+        What::Redundant => Some((4, 0)),
+        What::Table(index) => Some((5, index)),
+        What::Copy(index) => Some((6, index)),
+        What::Footer => Some((7, 0)),
+        What::Last => Some((8, 0)),
+        What::Grain(_) => None,
+    }
+}
+
+#[test]
+fn frames_have_what_was_built() {
+    let mut groups = BTreeSet::new();
+    for case in 0..600 {
+        let rng = &mut Rng::new(9, case);
+        let mut built = sound(rng, suited(any(100), case));
+        built.areas.sort_by_key(|area| group(area.what));
+        let mut expected = Vec::new();
+        for area in &built.areas {
+            if let Some((group, _)) = group(area.what) {
+                expected.extend([group, area.first, area.sectors]);
+                groups.insert(group);
+            }
+        }
+        let mut list = vec![0; expected.len()];
+        let framed = frame(&built.bytes, &mut list);
+        assert_eq!(framed.number, 0, "{case}");
+        assert_eq!(list, expected, "{case}: {:?}", built.shape);
+    }
+    assert_eq!(groups.len(), 8, "{groups:?}");
 }
 
 /// The bytes of a sector, or whether it is absent or zero.

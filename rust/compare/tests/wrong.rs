@@ -4,7 +4,7 @@ use compare::cases::run_cases;
 use compare::run::Run;
 use compare::side::{Plain, Side};
 use compare::tally::{Call, Tally};
-use plain::{Described, Extent, Found, Head, Located, Part, Verdict, Written};
+use plain::{Described, Extent, Found, Framed, Head, Located, Part, Verdict, Written};
 use std::path::PathBuf;
 
 /// The plain side with one mistake.
@@ -18,6 +18,10 @@ enum Mistake {
     ZeroAsksTheParent,
     LengthsThatWrap,
     ShortPart,
+    RedundantAsPrimary,
+    CopiesJudged,
+    WordPastTheLast,
+    WordOnRefusal,
     BytePastTheResult,
     ByteOnRefusal,
     LowerOverUpper,
@@ -81,6 +85,28 @@ impl Side for Mistake {
         part
     }
 
+    fn frame(&self, image: &[u8], list: &mut [u64]) -> Framed {
+        if *self == CopiesJudged && Plain.check(image).number == 11 {
+            return Framed {
+                number: 11,
+                ..Framed::default()
+            };
+        }
+        let framed = Plain.frame(image, list);
+        let end = 3 * framed.count as usize;
+        if *self == RedundantAsPrimary {
+            for area in list[..end].chunks_mut(3).filter(|area| area[0] == 6) {
+                area[0] = 5;
+            }
+        }
+        let past = framed.number == 0 && *self == WordPastTheLast;
+        let refused = framed.number == 21 && *self == WordOnRefusal;
+        if let (true, Some(word)) = (past || refused, list.get_mut(end)) {
+            *word = word.wrapping_add(1);
+        }
+        framed
+    }
+
     fn normal(&self, image: &[u8], out: &mut [u8]) -> Written {
         let written = Plain.normal(image, out);
         let past = written.number == 0 && *self == BytePastTheResult;
@@ -138,6 +164,10 @@ fn each_mistake_is_caught() {
         ZeroAsksTheParent,
         LengthsThatWrap,
         ShortPart,
+        RedundantAsPrimary,
+        CopiesJudged,
+        WordPastTheLast,
+        WordOnRefusal,
         BytePastTheResult,
         ByteOnRefusal,
         LowerOverUpper,

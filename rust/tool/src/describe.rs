@@ -1,127 +1,191 @@
 //! `describe`: what a descriptor says, in a file of its own or inside an image.
 
-use crate::failure::Failure;
+use crate::cli::stream;
+use crate::failure::{Failure, Refusal};
 use crate::files::Layers;
+use crate::names::{put_bytes, shown};
 use crate::print;
-use anhkhovet::{Descriptor, Extent, Refusal, SECTOR};
+use crate::streams;
+use anhkhovet::{Descriptor, Extent, Header, SECTOR};
 use serde_json::{json, Value};
+use std::io::Read;
 use std::ops::Range;
 use std::path::Path;
 
-/// The text: the whole file, or the part of an image that its header names.
-fn text<'a>(layers: &'a Layers, path: &Path) -> Result<(&'a [u8], bool), Failure> {
+/// As many bytes of a text are read: one more than document 01 allows, so that the library refuses it.
+const MOST: u64 = 65_537;
+
+/// A descriptor's text, and whether it is inside an image.
+struct Text {
+    bytes: Vec<u8>,
+    embedded: bool,
+}
+
+/// Whether what begins so is no image, so that it is taken for text: it has no magic at all.
+fn is_text(start: &[u8]) -> bool {
+    match anhkhovet::header(start) {
+        Err(refusal) => refusal.number == 2 || start.len() < 4,
+        Ok(_) => false,
+    }
+}
+
+fn of_file(path: &Path) -> Result<Text, Failure> {
+    let layers = Layers::one(path)?;
     let image = layers.bytes(0);
-    let head = match anhkhovet::header(image) {
-        Ok(head) => head,
-        // No magic at all: not an image, so it is taken for text.
-        Err(Refusal { number: 2, .. }) => return Ok((image, false)),
-        Err(Refusal { number: 1, .. }) if image.len() < 4 => return Ok((image, false)),
-        Err(refusal) => return Err(Failure::refused(path)(refusal)),
+    let (part, embedded) = if is_text(image) {
+        (0..(image.len() as u64).min(MOST), false)
+    } else {
+        let header = anhkhovet::header(image).map_err(Failure::refused(path))?;
+        (inside(path, image, &header)?, true)
     };
-    if head.descriptor == 0 && head.descriptor_sectors == 0 {
-        return Err(Failure::unfit(path, "the image has no descriptor inside"));
+    let bytes = layers.part(0, part)?;
+    layers.same()?;
+    Ok(Text { bytes, embedded })
+}
+
+/// Where the text stands inside an image.
+fn inside(path: &Path, image: &[u8], header: &Header) -> Result<Range<u64>, Failure> {
+    let (first, sectors) = (header.descriptor, header.descriptor_sectors);
+    if first == 0 && sectors == 0 {
+        return Err(Failure::Lacking(
+            path.to_path_buf(),
+            "is an extent without a descriptor inside; where there is one, it is a text file that names this extent: describe that",
+        ));
     }
-    let from = head.descriptor.checked_mul(SECTOR);
-    let length = head.descriptor_sectors.checked_mul(SECTOR);
-    let end = from
-        .zip(length)
-        .and_then(|(from, length)| from.checked_add(length));
-    let whole = image.len() as u64 / SECTOR * SECTOR;
-    match (from, end) {
-        (Some(from), Some(end)) if 0 < from && from < end && end <= whole => {
-            Ok((&image[from as usize..end as usize], true))
+    let file = image.len() as u64 / SECTOR;
+    if first > 0 && sectors > 0 && sectors <= file && first <= file - sectors {
+        let from = first * SECTOR;
+        return Ok(from..from + (sectors * SECTOR).min(MOST));
+    }
+    // The check judges the descriptor's place first of all places, and tells how.
+    Err(match anhkhovet::check(image) {
+        Err(refusal) => Failure::refused(path)(refusal),
+        // Only an image that changes under the tool gets here.
+        Ok(_) => Failure::changed(path),
+    })
+}
+
+fn of_input(path: &Path) -> Result<Text, Failure> {
+    let mut bytes = Vec::new();
+    streams::input()
+        .and_then(|input| input.take(MOST).read_to_end(&mut bytes))
+        .map_err(Failure::system(path, "cannot be read"))?;
+    if is_text(&bytes) {
+        let embedded = false;
+        return Ok(Text { bytes, embedded });
+    }
+    Err(Failure::Misused(
+        path.to_path_buf(),
+        "an image is read here and there, so it cannot come from standard input: hand over its file",
+    ))
+}
+
+/// A refusal with what helps on: a descriptor is no image.
+pub fn hinted(mut failure: Failure) -> Failure {
+    if let Failure::Refused(Refusal {
+        why: anhkhovet::Refusal { number: 2, .. },
+        file: Some(file),
+        detail,
+    }) = &mut failure
+    {
+        if is_descriptor(file) {
+            *detail = "it is a descriptor, which `anhkhovet describe` reads".to_string();
         }
-        // The check judges the descriptor's place first of all places, and tells how.
-        _ => match anhkhovet::check(image) {
-            Err(refusal) => Err(Failure::refused(path)(refusal)),
-            // Only an image that changes under the tool gets here.
-            Ok(_) => Err(Failure::changed(path)),
-        },
+    }
+    failure
+}
+
+/// Whether the first line is a descriptor's: the library judges it before all others.
+fn is_descriptor(path: &Path) -> bool {
+    match of_file(path).map(|text| anhkhovet::descriptor(&text.bytes)) {
+        Ok(Ok(_)) => true,
+        Ok(Err(refusal)) => !matches!(refusal.number, 30 | 31 | 36),
+        Err(_) => false,
     }
 }
 
-/// A part of the text, for eyes and JSON.
-fn part(text: &[u8], part: &Range<usize>) -> String {
-    let bytes = text.get(part.clone()).unwrap_or(&[]);
-    String::from_utf8_lossy(bytes).into_owned()
-}
+impl Text {
+    fn part(&self, part: &Range<usize>) -> &[u8] {
+        self.bytes.get(part.clone()).unwrap_or(&[])
+    }
 
-fn extent_object(text: &[u8], extent: &Extent) -> Value {
-    json!({
-        "first": extent.first,
-        "sectors": extent.sectors,
-        "access": extent.access.word(),
-        "type": extent.kind.word(),
-        "name": part(text, &extent.name),
-        "offset": extent.offset,
-    })
-}
+    fn extent(&self, extent: &Extent) -> Value {
+        let mut object = json!({
+            "first": extent.first,
+            "sectors": extent.sectors,
+            "access": extent.access.word(),
+            "type": extent.kind.word(),
+            "offset": extent.offset,
+        });
+        put_bytes(&mut object, "name", self.part(&extent.name));
+        object
+    }
 
-fn object(text: &[u8], said: &Descriptor, embedded: bool) -> Value {
-    json!({
-        "embedded": embedded,
-        "version": said.version,
-        "cid": format!("{:08x}", said.cid),
-        "parent_cid": format!("{:08x}", said.parent_cid),
-        "create_type": part(text, &said.create_type),
-        "extents": said.extents.iter().map(|extent| extent_object(text, extent)).collect::<Vec<_>>(),
-    })
-}
+    fn object(&self, said: &Descriptor) -> Value {
+        let extents = said.extents.iter().map(|extent| self.extent(extent));
+        let mut object = json!({
+            "embedded": self.embedded,
+            "version": said.version,
+            "cid": format!("{:08x}", said.cid),
+            "parent_cid": format!("{:08x}", said.parent_cid),
+            "extents": extents.collect::<Vec<_>>(),
+        });
+        put_bytes(&mut object, "create_type", self.part(&said.create_type));
+        object
+    }
 
-fn lines(text: &[u8], said: &Descriptor, embedded: bool) -> String {
-    let place = if embedded {
-        "inside an image"
-    } else {
-        "a file of its own"
-    };
-    let parent = if said.parent_cid == 0xffff_ffff {
-        " (no parent)"
-    } else {
-        ""
-    };
-    let mut all = format!(
-        "descriptor: {place}\nversion: {}\nCID: {:08x}\nparentCID: {:08x}{parent}\ncreateType: {}\n",
-        said.version,
-        said.cid,
-        said.parent_cid,
-        part(text, &said.create_type),
-    );
-    all += "extent        first      sectors access   type           offset name\n";
-    for (number, extent) in said.extents.iter().enumerate() {
-        let line = format!(
-            "{number:>6} {:>12} {:>12} {:<8} {:<10} {:>10} {}",
-            extent.first,
-            extent.sectors,
-            extent.access.word(),
-            extent.kind.word(),
-            extent.offset,
-            part(text, &extent.name),
+    fn lines(&self, said: &Descriptor) -> String {
+        let place = if self.embedded {
+            "inside an image"
+        } else {
+            "a file of its own"
+        };
+        let parent = if said.parent_cid == 0xffff_ffff {
+            " (no parent)"
+        } else {
+            ""
+        };
+        let mut all = format!(
+            "descriptor: {place}\nversion: {}\nCID: {:08x}\nparentCID: {:08x}{parent}\ncreateType: {}\n",
+            said.version,
+            said.cid,
+            said.parent_cid,
+            shown(self.part(&said.create_type)),
         );
-        all += line.trim_end();
-        all.push('\n');
+        all += "extent        first      sectors access   type           offset name\n";
+        for (number, extent) in said.extents.iter().enumerate() {
+            all += &format!(
+                "{number:>6} {:>12} {:>12} {:<8} {:<10} {:>10}",
+                extent.first,
+                extent.sectors,
+                extent.access.word(),
+                extent.kind.word(),
+                extent.offset,
+            );
+            if !extent.name.is_empty() {
+                all += " ";
+                all += &shown(self.part(&extent.name));
+            }
+            all += "\n";
+        }
+        all
     }
-    all
 }
 
 pub fn describe(path: &Path, sector: Option<u64>, json: bool) -> Result<(), Failure> {
-    let layers = Layers::one(path)?;
-    let (text, embedded) = text(&layers, path)?;
-    let said = anhkhovet::descriptor(text);
-    layers.same()?;
-    let said = said.map_err(Failure::refused(path))?;
-    let held = match sector {
-        None => None,
-        Some(sector) => {
-            let found = anhkhovet::find(&said.extents, sector);
-            Some((sector, found.map_err(Failure::refused(path))?))
-        }
+    let text = if stream(path) {
+        of_input(path)?
+    } else {
+        of_file(path)?
     };
-    // The text is read once more for its names: what is told is looked at before.
-    let (mut told, mut value) = (lines(text, &said, embedded), object(text, &said, embedded));
-    layers.same()?;
-    if let Some((sector, extent)) = held {
-        told += &format!("sector {sector}: extent {extent}\n");
-        value["sector"] = json!({ "sector": sector, "extent": extent });
+    let said = anhkhovet::descriptor(&text.bytes).map_err(Failure::refused(path))?;
+    let mut lines = text.lines(&said);
+    let mut object = text.object(&said);
+    if let Some(sector) = sector {
+        let found = anhkhovet::find(&said.extents, sector);
+        let extent = found.map_err(Failure::refused(path))?;
+        lines += &format!("sector {sector}: extent {extent}\n");
+        object["sector"] = json!({ "sector": sector, "extent": extent });
     }
-    print::answer(json, || told, || value)
+    print::answer(json, || lines, || object)
 }

@@ -1,18 +1,20 @@
 //! `digest`: SHA-256 of each sector or grain, told as lines `sector digest`.
 
-use crate::failure::{name, Failure};
-use crate::files::Layers;
-use crate::print::Printer;
+use crate::cores::in_order;
+use crate::failure::Failure;
+use crate::files::{same, Layers};
+use crate::hash::{digits, Hash, Hasher, Piece};
+use crate::names;
+use crate::print::{self, Printer};
 use crate::progress::Progress;
-use crate::sector::hex;
-use crate::source;
-use anhkhovet::{Disk, Located, Source, SECTOR};
+use anhkhovet::Disk;
 use serde_json::{json, Value};
-use sha2::{Digest, Sha256};
+use std::io::Write;
 use std::path::PathBuf;
 
-/// How much text is put together before the files are looked at again and it is printed.
-const BATCH: usize = 1 << 16;
+/// As many lines and bytes of grains are worked on at once; then the files are looked at, and the lines are printed.
+const LINES: u64 = 1 << 11;
+const BYTES: u64 = 1 << 20;
 
 /// One line of the list. A packed grain has one, at its first sector, of its closed payload.
 pub struct Line {
@@ -22,9 +24,15 @@ pub struct Line {
 }
 
 impl Line {
-    fn text(&self) -> String {
-        let packed = if self.packed { " packed" } else { "" };
-        format!("{} {}{packed}\n", self.sector, self.digest)
+    fn of(piece: &Piece, sector: u64, hash: &Hash) -> Line {
+        Line {
+            sector,
+            digest: digits(hash)
+                .iter()
+                .map(|&digit| char::from(digit))
+                .collect(),
+            packed: piece.packed(),
+        }
     }
 
     fn object(&self) -> Value {
@@ -38,15 +46,13 @@ impl Line {
 
 /// Digests of an image's or a chain's sectors.
 pub struct Digests<'a> {
-    layers: &'a Layers,
+    layers: &'a mut Layers,
     pub capacity: u64,
     pub grain_size: u64,
-    /// The digest of this many zero sectors: most of a sparse disk.
-    zeros: (u64, String),
 }
 
 impl<'a> Digests<'a> {
-    pub fn of(layers: &'a Layers) -> Result<Digests<'a>, Failure> {
+    pub fn of(layers: &'a mut Layers) -> Result<Digests<'a>, Failure> {
         let Disk {
             capacity,
             grain_size,
@@ -55,125 +61,126 @@ impl<'a> Digests<'a> {
             layers,
             capacity,
             grain_size,
-            zeros: (0, String::new()),
         })
     }
 
-    fn zeros(&mut self, sectors: u64) -> String {
-        if self.zeros.0 != sectors {
-            let bytes = vec![0; (sectors * SECTOR) as usize];
-            self.zeros = (sectors, hex(&Sha256::digest(&bytes)));
-        }
-        self.zeros.1.clone()
-    }
-
-    /// The digest of some sectors of one grain that is not packed, whose first is located.
-    fn open(&mut self, first: u64, sectors: u64, found: &Located) -> Result<String, Failure> {
-        if !matches!(found.source, Source::Stored { .. }) {
-            return Ok(self.zeros(sectors));
-        }
-        let mut hash = Sha256::new();
-        for sector in first..first + sectors {
-            hash.update(source::bytes(self.layers, sector, found)?);
-        }
-        Ok(hex(&hash.finalize()))
+    pub fn same(&self) -> Result<(), Failure> {
+        self.layers.same()
     }
 
     /// The line at a sector: of its whole grain, or of itself alone.
     pub fn line(&mut self, sector: u64, grains: bool) -> Result<Line, Failure> {
-        let found = self.layers.locate(sector)?;
-        self.located(sector, grains, &found)
+        let sectors = if grains { self.grain(sector) } else { 1 };
+        let piece = Piece::of(self.layers, sector, sectors)?;
+        let files = self.layers.files();
+        let hash = Hasher::new(&files).whole(&piece)?;
+        Ok(Line::of(&piece, piece.first, &hash))
     }
 
-    fn located(&mut self, sector: u64, grains: bool, found: &Located) -> Result<Line, Failure> {
-        if let Source::Packed { offset, .. } = found.source {
-            let payload = source::bytes(self.layers, sector, found)?;
-            return Ok(Line {
-                sector: sector - offset,
-                digest: hex(&Sha256::digest(payload)),
-                packed: true,
-            });
+    /// Sectors of the grain that begins there, below capacity.
+    fn grain(&self, first: u64) -> u64 {
+        self.grain_size.min(self.capacity - first)
+    }
+
+    /// The next grains from `first` on, which is moved past them; nothing at the end of the disk.
+    fn pieces(&mut self, first: &mut u64, grains: bool) -> Result<Option<Vec<Piece>>, Failure> {
+        let (mut pieces, mut lines, mut bytes) = (Vec::new(), 0, 0);
+        while *first < self.capacity && lines < LINES && bytes < BYTES {
+            let sectors = self.grain(*first);
+            let piece = Piece::of(self.layers, *first, sectors)?;
+            lines += if grains { 1 } else { sectors };
+            bytes += piece.length();
+            pieces.push(piece);
+            *first += sectors;
         }
-        let sectors = if grains {
-            self.grain_size.min(self.capacity - sector)
-        } else {
-            1
-        };
-        Ok(Line {
-            sector,
-            digest: self.open(sector, sectors, found)?,
-            packed: false,
-        })
+        Ok(Some(pieces).filter(|pieces| !pieces.is_empty()))
     }
 
-    /// All lines, handed over grain by grain.
-    fn each(
+    /// All lines in order, made ready by `work` on all cores and taken once the files are found unchanged.
+    fn all<D: Send>(
         &mut self,
         grains: bool,
-        mut take: impl FnMut(Line) -> Result<(), Failure>,
+        work: impl Fn(&mut Hasher, &[Piece]) -> Result<D, Failure> + Sync,
+        mut take: impl FnMut(D) -> Result<(), Failure>,
     ) -> Result<(), Failure> {
+        let files = self.layers.files();
+        // Lines on a terminal are progress enough, and a bar would stand between them.
+        let progress = if stdout_is_terminal() {
+            None
+        } else {
+            Some(Progress::start("digesting", self.capacity))
+        };
         let mut first = 0;
-        while first < self.capacity {
-            let found = self.layers.locate(first)?;
-            let end = self.capacity.min(first + self.grain_size);
-            let packed = matches!(found.source, Source::Packed { .. });
-            let last = if grains || packed { first + 1 } else { end };
-            for sector in first..last {
-                take(self.located(sector, grains, &found)?)?;
+        in_order(
+            || {
+                if let Some(progress) = &progress {
+                    progress.at(first);
+                }
+                self.pieces(&mut first, grains)
+            },
+            |pieces| work(&mut Hasher::new(&files), &pieces),
+            |done| {
+                let done = done?;
+                same(&files)?;
+                take(done)
+            },
+        )
+    }
+
+    /// The lines as text.
+    fn print(&mut self, grains: bool, printer: &mut Printer) -> Result<(), Failure> {
+        let text = |hasher: &mut Hasher, pieces: &[Piece]| {
+            let mut text = Vec::new();
+            for piece in pieces {
+                let packed: &[u8] = if piece.packed() { b" packed\n" } else { b"\n" };
+                hasher.each(piece, grains, |sector, hash| {
+                    // Memory takes everything.
+                    let _ = write!(text, "{sector} ");
+                    text.extend(digits(hash));
+                    text.extend(packed);
+                })?;
             }
-            first = end;
-        }
-        Ok(())
+            Ok(text)
+        };
+        self.all(grains, text, |text| printer.bytes(&text))
+    }
+
+    /// The lines as objects, handed over one by one.
+    fn objects(
+        &mut self,
+        grains: bool,
+        mut take: impl FnMut(&Value) -> Result<(), Failure>,
+    ) -> Result<(), Failure> {
+        let lines = |hasher: &mut Hasher, pieces: &[Piece]| {
+            let mut lines = Vec::new();
+            for piece in pieces {
+                hasher.each(piece, grains, |sector, hash| {
+                    lines.push(Line::of(piece, sector, hash))
+                })?;
+            }
+            Ok(lines)
+        };
+        self.all(grains, lines, |lines| {
+            lines.iter().try_for_each(|line| take(&line.object()))
+        })
     }
 }
 
 pub fn print(paths: &[PathBuf], grains: bool, json: bool) -> Result<(), Failure> {
-    let layers = Layers::open(paths)?;
-    let mut digests = Digests::of(&layers)?;
-    let (capacity, grain_size) = (digests.capacity, digests.grain_size);
-    // Lines on a terminal are progress enough, and a bar would stand between them.
-    let progress = if stdout_is_terminal() {
-        None
-    } else {
-        Some(Progress::start("digesting", capacity))
-    };
-
+    let mut layers = Layers::open(paths)?;
+    let files = layers.files();
+    let mut digests = Digests::of(&mut layers)?;
+    if json {
+        return print::members(|object| {
+            object.member("capacity", &digests.capacity)?;
+            names::files(object, files.iter().map(|file| file.path.as_path()))?;
+            object.member("grain_size", &digests.grain_size)?;
+            object.member("of", if grains { "grain" } else { "sector" })?;
+            object.list("digests", |take| digests.objects(grains, take))
+        });
+    }
     let mut printer = Printer::new();
-    let mut batch = String::new();
-    if json {
-        let files: Vec<Value> = layers.paths().map(name).collect();
-        let of = if grains { "grain" } else { "sector" };
-        let head =
-            json!({ "capacity": capacity, "files": files, "grain_size": grain_size, "of": of })
-                .to_string();
-        batch = format!("{},\"digests\":[", head.trim_end_matches('}'));
-    }
-    let mut some = false;
-    digests.each(grains, |line| {
-        if json {
-            if some {
-                batch.push(',');
-            }
-            batch += &line.object().to_string();
-        } else {
-            batch += &line.text();
-        }
-        some = true;
-        if batch.len() >= BATCH {
-            layers.same()?;
-            printer.text(&batch)?;
-            batch.clear();
-            if let Some(progress) = &progress {
-                progress.at(line.sector);
-            }
-        }
-        Ok(())
-    })?;
-    layers.same()?;
-    if json {
-        batch += "]}\n";
-    }
-    printer.text(&batch)?;
+    digests.print(grains, &mut printer)?;
     printer.done()
 }
 

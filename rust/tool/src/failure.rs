@@ -1,5 +1,6 @@
 //! Why a command gave no answer, and how that is told.
 
+use crate::names::{name, put_name};
 use serde_json::{json, Value};
 use std::fmt;
 use std::io;
@@ -17,16 +18,30 @@ pub struct Refusal {
 #[derive(Debug)]
 pub enum Failure {
     Refused(Refusal),
+    /// The file is well, and has not what was asked for: the file and why.
+    Lacking(PathBuf, &'static str),
+    /// The words were wrong, as what they name shows: the file and why.
+    Misused(PathBuf, &'static str),
     /// The system refused something: the file, what was tried, and its word.
     System(PathBuf, &'static str, io::Error),
     /// The tool itself won't: the file and why.
     Unfit(PathBuf, String),
-    /// A list and the image differ.
-    Differs(String),
     /// Standard output is gone.
     Print(io::Error),
     /// All was told before.
-    Told,
+    Told(Status),
+}
+
+/// How the program ends where it does not end well. Where several files fail, the greatest counts.
+#[derive(Clone, Copy, Debug, PartialEq, Eq, PartialOrd, Ord)]
+pub enum Status {
+    /// By document 01's rules, or since the file has not what was asked for.
+    Refused = 1,
+    Misused = 2,
+    /// A list that does not hold.
+    Differs = 3,
+    /// A file cannot be read or written, or changed.
+    Failed = 4,
 }
 
 impl Refusal {
@@ -45,7 +60,7 @@ impl Refusal {
             "sentence": self.why.sentence(),
         });
         if let Some(file) = &self.file {
-            object["file"] = name(file);
+            put_name(&mut object, "file", file);
         }
         if !self.detail.is_empty() {
             object["detail"] = json!(self.detail);
@@ -77,6 +92,15 @@ impl Failure {
         )
     }
 
+    pub fn status(&self) -> Status {
+        match self {
+            Failure::Refused(_) | Failure::Lacking(..) => Status::Refused,
+            Failure::Misused(..) => Status::Misused,
+            Failure::System(..) | Failure::Unfit(..) | Failure::Print(_) => Status::Failed,
+            Failure::Told(status) => *status,
+        }
+    }
+
     /// One object: `refused` by document 01's rules, `failed` for all else.
     pub fn json(&self) -> Value {
         match self {
@@ -86,15 +110,10 @@ impl Failure {
     }
 }
 
-/// A file's name as JSON has it.
-pub fn name(file: &Path) -> Value {
-    Value::String(file.to_string_lossy().into_owned())
-}
-
 impl fmt::Display for Refusal {
     fn fmt(&self, to: &mut fmt::Formatter) -> fmt::Result {
         if let Some(file) = &self.file {
-            write!(to, "{}: ", file.display())?;
+            write!(to, "{}: ", name(file))?;
         }
         self.why.fmt(to)?;
         if !self.detail.is_empty() {
@@ -108,13 +127,13 @@ impl fmt::Display for Failure {
     fn fmt(&self, to: &mut fmt::Formatter) -> fmt::Result {
         match self {
             Failure::Refused(refusal) => refusal.fmt(to),
-            Failure::System(file, tried, error) => {
-                write!(to, "{}: {tried}: {error}", file.display())
+            Failure::System(file, tried, error) => write!(to, "{}: {tried}: {error}", name(file)),
+            Failure::Lacking(file, why) | Failure::Misused(file, why) => {
+                write!(to, "{}: {why}", name(file))
             }
-            Failure::Unfit(file, why) => write!(to, "{}: {why}", file.display()),
-            Failure::Differs(how) => to.write_str(how),
+            Failure::Unfit(file, why) => write!(to, "{}: {why}", name(file)),
             Failure::Print(error) => write!(to, "standard output: {error}"),
-            Failure::Told => Ok(()),
+            Failure::Told(_) => Ok(()),
         }
     }
 }

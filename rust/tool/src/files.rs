@@ -1,181 +1,200 @@
-//! Files, lent to the library: each is mapped, and several of them end to end in one range, base first.
+//! The files of one command, as the library gets them: own bytes, several files end to end in one range, base first.
 
 use crate::failure::{Failure, Refusal};
-use crate::guard::Watch;
-use crate::span::Span;
-use anhkhovet::{ChainRefusal, Disk, Located};
+use crate::frame;
+use crate::layer::Layer;
+use crate::names::name;
+use crate::own::Own;
+use anhkhovet::{Area, ChainRefusal, Disk, Located};
 use std::fs::File;
-use std::os::unix::fs::MetadataExt;
+use std::ops::Range;
 use std::path::{Path, PathBuf};
+use std::sync::Arc;
 
-/// One file, as it was when it was opened.
-pub struct Layer {
-    pub path: PathBuf,
-    file: File,
-    pub length: u64,
-    changed_at: (i64, i64),
-}
-
-/// The files of one command in one range of memory.
 pub struct Layers {
-    layers: Vec<Layer>,
+    files: Arc<Vec<Layer>>,
     lengths: Vec<u64>,
-    starts: Vec<usize>,
-    span: Span,
-    _watches: Vec<Watch>,
+    own: Own,
+    parts: Vec<Part>,
 }
 
-impl Layer {
-    pub fn open(path: &Path) -> Result<Layer, Failure> {
-        let file = File::open(path).map_err(Failure::system(path, "cannot be opened"))?;
-        let facts = file
-            .metadata()
-            .map_err(Failure::system(path, "cannot be looked at"))?;
-        if !facts.is_file() {
-            return Err(Failure::unfit(
-                path,
-                "is not a plain file, and only those can be mapped",
-            ));
-        }
-        Ok(Layer {
-            path: path.to_path_buf(),
-            file,
-            length: facts.len(),
-            changed_at: (facts.mtime(), facts.mtime_nsec()),
-        })
-    }
-
-    /// Whether length and time of change are what they were.
-    fn same(&self) -> Result<(), Failure> {
-        let facts = self
-            .file
-            .metadata()
-            .map_err(Failure::system(&self.path, "cannot be looked at"))?;
-        let now = (facts.mtime(), facts.mtime_nsec());
-        if facts.len() == self.length && now == self.changed_at {
-            Ok(())
-        } else {
-            Err(Failure::changed(&self.path))
-        }
-    }
-
-    fn told_when_cut(&self) -> String {
-        Failure::unfit(
-            &self.path,
-            "the file was cut while it was read, or cannot be read there, so there is no answer",
-        )
-        .to_string()
-    }
+/// One file's part of the own bytes.
+struct Part {
+    bytes: Range<usize>,
+    /// Its areas; none where the frame is refused.
+    frame: Vec<Area>,
+    /// The frame is refused 8: a lookup may have an answer all the same, and then reads more than was copied.
+    broken: bool,
+    /// The markers of packed grains are copied.
+    marked: bool,
 }
 
 impl Layers {
     pub fn open(paths: &[PathBuf]) -> Result<Layers, Failure> {
-        let mut layers = Vec::new();
-        let mut lengths = Vec::new();
-        let mut starts = Vec::new();
-        let mut total = 0usize;
-        for path in paths {
-            let layer = Layer::open(path)?;
-            starts.push(total);
-            total = usize::try_from(layer.length)
-                .ok()
-                .and_then(|length| total.checked_add(length))
-                .ok_or_else(|| Failure::unfit(path, "is too long to be mapped"))?;
-            lengths.push(layer.length);
-            layers.push(layer);
-        }
-
-        let files: Vec<_> = layers
-            .iter()
-            .map(|layer| (&layer.file, layer.length))
-            .collect();
-        let span = Span::of(&files, total).map_err(|(which, error)| {
-            let path = &layers[which].path;
-            match error.kind() {
-                std::io::ErrorKind::UnexpectedEof => Failure::changed(path),
-                _ => Failure::System(path.clone(), "cannot be mapped", error),
-            }
-        })?;
-        let watches = layers
-            .iter()
-            .zip(&starts)
-            .map(|(layer, &start)| {
-                let bytes = &span.bytes()[start..start + layer.length as usize];
-                Watch::new(bytes.as_ptr(), bytes.len(), &layer.told_when_cut())
-            })
-            .collect();
-        Ok(Layers {
-            layers,
-            lengths,
-            starts,
-            span,
-            _watches: watches,
-        })
+        let files: Result<Vec<_>, _> = paths.iter().map(|path| Layer::open(path)).collect();
+        Layers::of(files?)
     }
 
     pub fn one(path: &Path) -> Result<Layers, Failure> {
-        Layers::open(&[path.to_path_buf()])
+        Layers::of(vec![Layer::open(path)?])
     }
 
-    /// For what reads here and there: the system is not to read ahead, which on a big disk is most of its work.
-    pub fn scattered(self) -> Layers {
-        let bytes = self.span.bytes();
-        if !bytes.is_empty() {
-            // SAFETY: advice about a range that is mapped; it changes no byte, and a refusal of it changes nothing.
-            unsafe {
-                libc::madvise(
-                    bytes.as_ptr() as *mut libc::c_void,
-                    bytes.len(),
-                    libc::MADV_RANDOM,
-                )
-            };
+    /// One layer, of a file that is open already.
+    pub fn of_file(path: &Path, file: File) -> Result<Layers, Failure> {
+        Layers::of(vec![Layer::of(path, file)?])
+    }
+
+    fn of(files: Vec<Layer>) -> Result<Layers, Failure> {
+        let mut parts = Vec::new();
+        let mut total = 0isize;
+        for file in &files {
+            let start = total;
+            total = isize::try_from(file.length())
+                .ok()
+                .and_then(|length| total.checked_add(length))
+                .ok_or_else(|| Failure::unfit(&file.path, "is too long to be mapped"))?;
+            parts.push(Part {
+                bytes: start as usize..total as usize,
+                frame: Vec::new(),
+                broken: false,
+                marked: false,
+            });
         }
-        self
+        let mut own = Own::new(total as usize).map_err(|error| {
+            let longest = files.iter().max_by_key(|file| file.length());
+            let path = longest.map_or_else(PathBuf::new, |file| file.path.clone());
+            Failure::System(path, "is too long to be mapped", error)
+        })?;
+        for (file, part) in files.iter().zip(&mut parts) {
+            match frame::copy(file, &mut own.bytes_mut()[part.bytes.clone()])? {
+                Ok(areas) => part.frame = areas,
+                Err(refusal) => part.broken = refusal.number == 8,
+            }
+        }
+        Ok(Layers {
+            lengths: files.iter().map(Layer::length).collect(),
+            files: Arc::new(files),
+            own,
+            parts,
+        })
     }
 
     pub fn count(&self) -> usize {
-        self.layers.len()
+        self.files.len()
     }
 
     pub fn path(&self, layer: u64) -> &Path {
-        &self.layers[layer as usize].path
+        &self.files[layer as usize].path
     }
 
     pub fn paths(&self) -> impl Iterator<Item = &Path> {
-        self.layers.iter().map(|layer| layer.path.as_path())
+        self.files.iter().map(|file| file.path.as_path())
     }
 
-    /// The bytes of one layer, counted from the base.
+    /// The files themselves, for threads that read grains.
+    pub fn files(&self) -> Arc<Vec<Layer>> {
+        Arc::clone(&self.files)
+    }
+
+    pub fn file(&self, layer: u64) -> &File {
+        &self.files[layer as usize].file
+    }
+
+    /// The own bytes of one layer: as many as the file has, zero where they decide nothing.
     pub fn bytes(&self, layer: u64) -> &[u8] {
-        let start = self.starts[layer as usize];
-        &self.span.bytes()[start..start + self.lengths[layer as usize] as usize]
+        &self.own.bytes()[self.parts[layer as usize].bytes.clone()]
     }
 
-    /// To be asked after reading and before telling: a page cut off inside reads as zeros, with no fault.
+    /// The areas of one layer that are copied; none where the check refuses the layer with 1 to 8.
+    pub fn frame(&self, layer: u64) -> &[Area] {
+        &self.parts[layer as usize].frame
+    }
+
+    /// Where the grain reader's bytes for a sector are in the layer's file: none for what is neither stored nor packed.
+    pub fn place(&self, layer: u64, sector: u64) -> Range<u64> {
+        let place = anhkhovet::read_part(self.bytes(layer), sector);
+        place.start as u64..place.end as u64
+    }
+
+    /// A part of the file, read now.
+    pub fn part(&self, layer: u64, part: Range<u64>) -> Result<Vec<u8>, Failure> {
+        let mut bytes = vec![0; (part.end - part.start) as usize];
+        self.files[layer as usize].read(part.start, &mut bytes)?;
+        Ok(bytes)
+    }
+
+    /// To be asked after reading and before telling.
     pub fn same(&self) -> Result<(), Failure> {
-        self.layers.iter().try_for_each(Layer::same)
+        same(&self.files)
+    }
+
+    /// A call that judges all grains of a layer. Markers of packed grains are copied where they decide.
+    pub fn ask<T>(
+        &mut self,
+        layer: u64,
+        call: impl Fn(&[u8]) -> Result<T, anhkhovet::Refusal>,
+    ) -> Result<Result<T, anhkhovet::Refusal>, Failure> {
+        let answer = call(self.bytes(layer));
+        let part = &mut self.parts[layer as usize];
+        let own = &mut self.own.bytes_mut()[part.bytes.clone()];
+        let unsure = matches!(&answer, Err(refusal) if matches!(refusal.number, 9 | 10));
+        if !unsure || part.marked || !frame::packed(own) {
+            return Ok(answer);
+        }
+        frame::copy_markers(&self.files[layer as usize], own, &part.frame)?;
+        part.marked = true;
+        Ok(call(self.bytes(layer)))
     }
 
     /// Where a sector comes from, or the refusal.
-    pub fn locate(&self, sector: u64) -> Result<Located, Failure> {
-        let found = if self.layers.len() == 1 {
-            let layer = 0;
-            anhkhovet::lookup(self.span.bytes(), sector)
-                .map(|source| Located { layer, source })
-                .map_err(|refusal| ChainRefusal { refusal, layer })
-        } else {
-            anhkhovet::chain(self.span.bytes(), &self.lengths, sector)
-        };
+    pub fn locate(&mut self, sector: u64) -> Result<Located, Failure> {
+        self.widen()?;
+        let mut found = self.search(sector);
+        if let Err(ChainRefusal { refusal, layer }) = found {
+            if matches!(refusal.number, 9 | 10) {
+                self.mark(layer, refusal.place)?;
+                found = self.search(sector);
+            }
+        }
         found.or_else(|refused| {
             self.same()?;
             Err(Failure::Refused(self.refusal(&refused)))
         })
     }
 
+    fn search(&self, sector: u64) -> Result<Located, ChainRefusal> {
+        if self.files.len() == 1 {
+            let layer = 0;
+            anhkhovet::lookup(self.own.bytes(), sector)
+                .map(|source| Located { layer, source })
+                .map_err(|refusal| ChainRefusal { refusal, layer })
+        } else {
+            anhkhovet::chain(self.own.bytes(), &self.lengths, sector)
+        }
+    }
+
+    /// Copies the whole of each file whose frame is refused 8, once.
+    fn widen(&mut self) -> Result<(), Failure> {
+        for (file, part) in self.files.iter().zip(&mut self.parts) {
+            if part.broken {
+                file.copy(0, &mut self.own.bytes_mut()[part.bytes.clone()])?;
+                part.broken = false;
+            }
+        }
+        Ok(())
+    }
+
+    /// Copies the marker of one grain, if it is packed.
+    fn mark(&mut self, layer: u64, grain: u64) -> Result<(), Failure> {
+        let part = &self.parts[layer as usize];
+        let own = &mut self.own.bytes_mut()[part.bytes.clone()];
+        frame::copy_marker(&self.files[layer as usize], own, &part.frame, grain)
+    }
+
     /// A refusal of the whole chain names no layer: the library says 0 there.
     fn refusal(&self, refused: &ChainRefusal) -> Refusal {
         let file = match refused.layer_at_fault() {
-            None if self.layers.len() > 1 => None,
+            None if self.files.len() > 1 => None,
             _ => Some(self.path(refused.layer)),
         };
         let mut refusal = Refusal::new(refused.refusal, file);
@@ -186,22 +205,26 @@ impl Layers {
                 }
             }
             22 => {
-                let paths: Vec<_> = (0..self.layers.len() as u64)
+                let paths: Vec<_> = (0..self.files.len() as u64)
                     .map(|layer| (self.path(layer), self.bytes(layer)))
                     .collect();
                 refusal.detail = unlike(&paths);
             }
-            24 => refusal.detail = format!("here are {}", self.layers.len()),
+            24 => refusal.detail = format!("here are {}", self.files.len()),
             _ => {}
         }
         refusal
     }
 
     /// Capacity and grain size, once the chain is known to have one of each.
-    pub fn disk(&self) -> Result<Disk, Failure> {
+    pub fn disk(&mut self) -> Result<Disk, Failure> {
         self.locate(0)?;
         disk(self.bytes(0)).map_err(Failure::refused(self.path(0)))
     }
+}
+
+pub fn same(files: &[Layer]) -> Result<(), Failure> {
+    files.iter().try_for_each(Layer::same)
 }
 
 fn disk(image: &[u8]) -> Result<Disk, anhkhovet::Refusal> {
@@ -213,7 +236,7 @@ pub fn unlike(images: &[(&Path, &[u8])]) -> String {
     let told = |(path, disk): (&Path, Disk)| {
         format!(
             "{} has capacity {} and grain size {}",
-            path.display(),
+            name(path),
             disk.capacity,
             disk.grain_size
         )

@@ -1,14 +1,13 @@
 //! What must happen even if the process is stopped: a mapped file that is cut, or a disk that is full under a mapped output,
 //! ends in a message and not in an answer, and no half-written output is left behind.
 //!
-//! A handler may do little: it walks two lists that only ever grow, writes ready-made bytes, removes files and exits.
+//! A signal's handler may do little: it walks two lists that only ever grow, writes ready-made bytes, removes files and exits.
 
-use libc::{c_int, c_void, siginfo_t};
+use crate::failure::Status;
+use libc::{c_int, c_void};
 use std::ffi::CString;
-use std::io;
-use std::mem::zeroed;
 use std::ptr;
-use std::sync::atomic::{AtomicBool, AtomicPtr, AtomicUsize, Ordering::SeqCst};
+use std::sync::atomic::{AtomicBool, AtomicPtr, Ordering::SeqCst};
 
 /// A range of mapped bytes and what to say when it can't be read or written.
 struct Range {
@@ -20,9 +19,10 @@ struct Range {
     next: *mut Range,
 }
 
-/// A file that must not stay.
+/// A file that must not stay, by its name in an open folder.
 struct Temporary {
-    path: CString,
+    folder: c_int,
+    name: CString,
     live: AtomicBool,
     next: *mut Temporary,
 }
@@ -70,9 +70,11 @@ impl Drop for Watch {
 }
 
 impl Doomed {
-    pub fn new(path: CString) -> Doomed {
+    /// The folder stays open for as long as this lives.
+    pub fn new(folder: c_int, name: CString) -> Doomed {
         let file = Box::leak(Box::new(Temporary {
-            path,
+            folder,
+            name,
             live: AtomicBool::new(true),
             next: TEMPORARIES.load(SeqCst),
         }));
@@ -87,16 +89,14 @@ impl Drop for Doomed {
     }
 }
 
-/// How many handlers run: the second of two must not remove or write anything.
-static STOPPING: AtomicUsize = AtomicUsize::new(0);
+// SAFETY for all below: unlinkat, write and _exit may be called in a handler; nodes are never freed or changed but for `live`.
 
-// SAFETY for all below: unlink, write and _exit may be called in a handler; nodes are never freed or changed but for `live`.
-
-unsafe fn remove_temporaries() {
+/// Removes what must not stay. A second time does no harm.
+pub unsafe fn remove_temporaries() {
     let mut node = TEMPORARIES.load(SeqCst);
     while let Some(file) = node.as_ref() {
         if file.live.load(SeqCst) {
-            libc::unlink(file.path.as_ptr());
+            libc::unlinkat(file.folder, file.name.as_ptr(), 0);
         }
         node = file.next;
     }
@@ -113,51 +113,18 @@ unsafe fn write_all(to: c_int, text: &str) {
     }
 }
 
-unsafe extern "C" fn on_fault(signal: c_int, info: *mut siginfo_t, _: *mut c_void) {
-    let at = (*info).si_addr() as usize;
+/// Ends the process with the message of the range that the address lies in, if there is one.
+pub unsafe fn tell_fault(at: usize) {
     let mut node = RANGES.load(SeqCst);
     while let Some(range) = node.as_ref() {
         if range.live.load(SeqCst) && range.start <= at && at < range.end {
-            if STOPPING.fetch_add(1, SeqCst) == 0 {
-                remove_temporaries();
-                write_all(libc::STDERR_FILENO, &range.message);
-                if OBJECT_OWED.load(SeqCst) {
-                    write_all(libc::STDOUT_FILENO, &range.object);
-                }
+            remove_temporaries();
+            write_all(libc::STDERR_FILENO, &range.message);
+            if OBJECT_OWED.load(SeqCst) {
+                write_all(libc::STDOUT_FILENO, &range.object);
             }
-            libc::_exit(1);
+            libc::_exit(Status::Failed as c_int);
         }
         node = range.next;
     }
-    // Not ours: the fault comes again at once and has its usual end.
-    libc::signal(signal, libc::SIG_DFL);
-}
-
-unsafe extern "C" fn on_stop(signal: c_int) {
-    if STOPPING.fetch_add(1, SeqCst) == 0 {
-        remove_temporaries();
-    }
-    libc::signal(signal, libc::SIG_DFL);
-    libc::raise(signal);
-}
-
-/// Sets the handlers. A limit on file size is to be an error of the call that meets it, not a signal.
-pub fn install() -> io::Result<()> {
-    unsafe {
-        let mut action: libc::sigaction = zeroed();
-        action.sa_flags = libc::SA_SIGINFO | libc::SA_ONSTACK;
-        action.sa_sigaction = on_fault as *const () as usize;
-        if libc::sigaction(libc::SIGBUS, &action, ptr::null_mut()) != 0 {
-            return Err(io::Error::last_os_error());
-        }
-        action.sa_flags = 0;
-        action.sa_sigaction = on_stop as *const () as usize;
-        for signal in [libc::SIGINT, libc::SIGTERM, libc::SIGHUP, libc::SIGPIPE] {
-            if libc::sigaction(signal, &action, ptr::null_mut()) != 0 {
-                return Err(io::Error::last_os_error());
-            }
-        }
-        libc::signal(libc::SIGXFSZ, libc::SIG_IGN);
-    }
-    Ok(())
 }

@@ -1,130 +1,194 @@
-//! `digest --list`: an image compared with a list of digests.
+//! `digest --list`: an image compared with a list of digests, line by line.
 
+use crate::difference::{Difference, Fault};
 use crate::digest::{Digests, Line};
-use crate::failure::Failure;
+use crate::failure::{Failure, Status};
 use crate::files::Layers;
-use crate::print;
+use crate::lines::{Content, Lines};
+use crate::named::Named;
+use crate::names;
+use crate::print::{self, Printer};
 use crate::progress::Progress;
-use serde_json::json;
-use std::fs::File;
-use std::io::{BufRead, BufReader};
 use std::path::{Path, PathBuf};
 
-/// A line of a list: number and digest, parted by spaces or a comma, and maybe the word `packed`. Nothing for a line that
-/// is empty or a comment.
-fn parse(line: &str) -> Result<Option<Line>, ()> {
-    let line = line.trim();
-    if line.is_empty() || line.starts_with('#') {
-        return Ok(None);
-    }
-    let mut words = line
-        .split(|c: char| c == ',' || c.is_whitespace())
-        .filter(|word| !word.is_empty());
-    let sector = words.next().and_then(|word| word.parse().ok()).ok_or(())?;
-    let digest = words.next().ok_or(())?.to_ascii_lowercase();
-    let packed = match words.next() {
-        None => false,
-        Some("packed") => true,
-        Some(_) => return Err(()),
-    };
-    let well_formed = digest.len() == 64 && digest.bytes().all(|digit| digit.is_ascii_hexdigit());
-    if !well_formed || words.next().is_some() {
-        return Err(());
-    }
-    Ok(Some(Line {
-        sector,
-        digest,
-        packed,
-    }))
+/// What to compare with, and how.
+pub struct Asked {
+    pub list: PathBuf,
+    pub grains: bool,
+    /// Whether what the list leaves out is a failure.
+    pub complete: bool,
 }
 
-/// How a listed line and the image differ, or nothing where they agree.
-fn difference(listed: &Line, found: &Line) -> Option<String> {
-    let sector = listed.sector;
-    if found.packed && !listed.packed {
-        let first = found.sector;
-        return Some(format!(
-            "sector {sector} is packed in the image, in the grain from sector {first} on, and the list has a digest of open bytes"
-        ));
-    }
-    if listed.packed && !found.packed {
-        return Some(format!(
-            "sector {sector} is not packed in the image, and the list says that it is"
-        ));
-    }
-    if found.sector != sector {
-        let first = found.sector;
-        return Some(format!(
-            "sector {sector} is not the first of its packed grain, which is {first}"
-        ));
-    }
-    if listed.digest != found.digest {
-        return Some(format!(
-            "sector {sector} differs: the list has {}, the image {}",
-            listed.digest, found.digest
-        ));
-    }
-    None
+/// A comparison and how far it went.
+struct Comparison<'a> {
+    digests: Digests<'a>,
+    grains: bool,
+    /// Sectors of the disk or, if grains are compared, grains.
+    units: u64,
+    named: Named,
+    lines: u64,
+    failed: u64,
 }
 
-pub fn compare(paths: &[PathBuf], grains: bool, list: &Path, json: bool) -> Result<(), Failure> {
-    let layers = Layers::open(paths)?;
-    let mut digests = Digests::of(&layers)?;
-    let file = File::open(list).map_err(Failure::system(list, "cannot be opened"))?;
-    let progress = Progress::start("comparing", 0);
-    let mut compared = 0u64;
-    for (number, line) in BufReader::new(file).lines().enumerate() {
-        let line = line.map_err(Failure::system(list, "cannot be read"))?;
-        let at = number + 1;
-        let listed = match parse(&line) {
-            Ok(None) => continue,
-            Ok(Some(listed)) => listed,
-            Err(()) => {
-                return Err(Failure::unfit(
-                    list,
-                    format!("line {at} is not of the form: sector, digest"),
-                ))
+impl<'a> Comparison<'a> {
+    fn of(layers: &'a mut Layers, grains: bool) -> Result<Comparison<'a>, Failure> {
+        let digests = Digests::of(layers)?;
+        let unit = if grains { digests.grain_size } else { 1 };
+        let units = (digests.capacity + unit - 1) / unit;
+        Ok(Comparison {
+            digests,
+            grains,
+            units,
+            named: Named::below(units),
+            lines: 0,
+            failed: 0,
+        })
+    }
+
+    /// Compares with each line, and hands over those that do not hold.
+    fn run(
+        &mut self,
+        list: &Path,
+        tell: &mut dyn FnMut(&Difference) -> Result<(), Failure>,
+    ) -> Result<(), Failure> {
+        let mut progress = Some(Progress::start("comparing", 0));
+        let mut lines = Lines::open(list)?;
+        while let Some(content) = lines.next()? {
+            self.lines += 1;
+            let last = matches!(content, Content::Binary);
+            if let Some((sector, fault)) = self.judge(content)? {
+                self.failed += 1;
+                // A bar would stand between the lines.
+                progress = None;
+                self.digests.same()?;
+                tell(&Difference {
+                    line: lines.number,
+                    sector,
+                    fault,
+                })?;
             }
-        };
-        if grains && listed.sector % digests.grain_size != 0 {
-            return Err(Failure::unfit(
-                list,
-                format!(
-                    "line {at} names sector {}, which is not the first of a grain",
-                    listed.sector
-                ),
-            ));
+            if last {
+                break;
+            }
         }
-        let found = digests.line(listed.sector, grains)?;
-        if let Some(how) = difference(&listed, &found) {
-            layers.same()?;
-            return Err(Failure::Differs(format!(
-                "{}: line {at}: {how}",
-                list.display()
-            )));
-        }
-        compared += 1;
-    }
-    drop(progress);
-    layers.same()?;
-    if compared == 0 {
-        return Err(Failure::unfit(list, "has no line to compare with"));
+        drop(progress);
+        self.digests.same()
     }
 
-    let unit = if grains { "grain" } else { "sector" };
-    let all = if grains {
-        (digests.capacity + digests.grain_size - 1) / digests.grain_size
+    fn judge(&mut self, content: Content) -> Result<Option<(Option<u64>, Fault)>, Failure> {
+        Ok(match content {
+            Content::Malformed => Some((None, Fault::Form)),
+            Content::Binary => Some((None, Fault::Text)),
+            Content::Entry(listed) => {
+                let fault = self.fault(&listed)?;
+                fault.map(|fault| (Some(listed.sector), fault))
+            }
+        })
+    }
+
+    /// Why a listed line does not hold, or nothing.
+    fn fault(&mut self, listed: &Line) -> Result<Option<Fault>, Failure> {
+        let (sector, size) = (listed.sector, self.digests.grain_size);
+        if sector >= self.digests.capacity {
+            return Ok(Some(Fault::Past(self.digests.capacity - 1)));
+        }
+        let first = sector - sector % size;
+        if self.grains && sector != first {
+            return Ok(Some(Fault::Inside(first)));
+        }
+        let found = self.digests.line(sector, self.grains)?;
+        let packed = listed.packed && found.packed;
+        Ok(if packed && sector != found.sector {
+            Some(Fault::Inside(found.sector))
+        } else if !self.name(sector, packed) {
+            Some(Fault::Twice)
+        } else if found.packed && !listed.packed {
+            Some(Fault::Packed(found.sector))
+        } else if listed.packed && !found.packed {
+            Some(Fault::Open)
+        } else if listed.digest != found.digest {
+            Some(Fault::Digest(listed.digest.clone(), found.digest))
+        } else {
+            None
+        })
+    }
+
+    /// Whether a sector was not named before. The line of a packed grain names all sectors of it.
+    fn name(&mut self, sector: u64, packed: bool) -> bool {
+        let size = self.digests.grain_size;
+        if self.grains {
+            return self.named.mark(sector / size);
+        }
+        let new = self.named.mark(sector);
+        if packed {
+            let end = self.units.min(sector + size);
+            (sector + 1..end).for_each(|sector| {
+                self.named.mark(sector);
+            });
+        }
+        new
+    }
+
+    fn left_out(&self) -> u64 {
+        self.units - self.named.count
+    }
+
+    fn holds(&self, asked: &Asked) -> bool {
+        self.failed == 0 && self.lines > 0 && !(asked.complete && self.left_out() > 0)
+    }
+
+    fn unit(&self) -> &'static str {
+        if self.grains {
+            "grain"
+        } else {
+            "sector"
+        }
+    }
+
+    fn summary(&self, asked: &Asked) -> String {
+        let (lines, failed, units, unit) = (self.lines, self.failed, self.units, self.unit());
+        let compared = match failed {
+            _ if lines == 0 => "there is no line to compare with".to_string(),
+            0 => format!("all {lines} digests agree"),
+            _ => format!("{failed} of {lines} lines fail"),
+        };
+        let left = match self.left_out() {
+            0 => format!("none of the disk's {units} {unit}s is left out"),
+            left if asked.complete => {
+                format!("{left} of the disk's {units} {unit}s are left out, so it is not complete")
+            }
+            left => format!("{left} of the disk's {units} {unit}s are left out"),
+        };
+        format!("{}: {compared}; {left}\n", names::name(&asked.list))
+    }
+}
+
+pub fn compare(paths: &[PathBuf], asked: &Asked, json: bool) -> Result<(), Failure> {
+    let mut layers = Layers::open(paths)?;
+    let mut comparison = Comparison::of(&mut layers, asked.grains)?;
+    if json {
+        print::members(|object| {
+            object.list("differences", |take| {
+                comparison.run(&asked.list, &mut |difference| take(&difference.object()))
+            })?;
+            object.member("agree", &comparison.holds(asked))?;
+            object.member("compared", &comparison.lines)?;
+            object.member("disk", &comparison.units)?;
+            object.member("left_out", &comparison.left_out())?;
+            object.member("of", comparison.unit())
+        })?;
     } else {
-        digests.capacity
-    };
-    print::answer(
-        json,
-        || {
-            format!(
-                "{}: all {compared} digests agree; the disk has {all} {unit}s\n",
-                list.display()
-            )
-        },
-        || json!({ "agree": true, "compared": compared, "of": unit, "disk": all }),
-    )
+        let mut printer = Printer::new();
+        let name = names::name(&asked.list);
+        comparison.run(&asked.list, &mut |difference| {
+            printer.text(&format!("{name}: {}\n", difference.text()))
+        })?;
+        printer.text(&comparison.summary(asked))?;
+        printer.done()?;
+    }
+    if comparison.holds(asked) {
+        Ok(())
+    } else {
+        Err(Failure::Told(Status::Differs))
+    }
 }

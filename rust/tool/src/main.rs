@@ -1,26 +1,43 @@
 //! anhkhovet: what the proved library says of disk images, for files of any size.
 //!
-//! The tool reads no byte of an image by itself: it maps files, hands them to the library and tells its answers.
+//! The library is lent memory of the tool's own, into which what decides is copied, and the tool tells its answers.
 
 mod check;
 mod cli;
+mod commands;
+mod cores;
 mod describe;
+mod difference;
 mod digest;
 mod failure;
 mod files;
+mod folder;
+mod frame;
 mod guard;
+mod hash;
+mod json;
+mod layer;
+mod lines;
 mod list;
 mod map;
+mod mapping;
+mod named;
+mod names;
 mod output;
+mod own;
+mod place;
 mod print;
 mod progress;
 mod sector;
+mod signals;
 mod source;
 mod span;
+mod streams;
+mod worker;
 mod write;
 
-use cli::Task;
-use failure::Failure;
+use cli::{Stop, Task};
+use failure::{Failure, Status};
 use std::process::exit;
 
 fn run(task: Task, json: bool) -> Result<(), Failure> {
@@ -29,12 +46,8 @@ fn run(task: Task, json: bool) -> Result<(), Failure> {
         Task::Sector(files, sector) => sector::sector(&files, sector, json),
         Task::Read(files, sector, target) => sector::read(&files, sector, target, json),
         Task::Map(files) => map::map(&files, json),
-        Task::Digest {
-            files,
-            grains,
-            list: Some(list),
-        } => list::compare(&files, grains, &list, json),
-        Task::Digest { files, grains, .. } => digest::print(&files, grains, json),
+        Task::Digest(files, grains) => digest::print(&files, grains, json),
+        Task::Compare(files, asked) => list::compare(&files, &asked, json),
         Task::Collapse(files, target) => write::collapse(&files, &target, json),
         Task::Normal(file, target) => write::normal(&file, &target, json),
         Task::Describe(file, sector) => describe::describe(&file, sector, json),
@@ -42,25 +55,39 @@ fn run(task: Task, json: bool) -> Result<(), Failure> {
 }
 
 fn main() {
-    let (task, json) = cli::parse();
-    guard::owe_object(json);
-    if let Err(error) = guard::install() {
-        eprintln!("anhkhovet: signals cannot be handled: {error}");
-        exit(1);
+    if let Err(error) = signals::install() {
+        print::note(&format!("signals cannot be handled: {error}"));
+        exit(Status::Failed as i32);
     }
-    if let Err(failure) = run(task, json) {
-        tell(&failure, json);
-        exit(1);
+    exit(worker::run(command));
+}
+
+/// From the command line to the status.
+fn command() -> i32 {
+    let (ended, json) = match cli::parse() {
+        Ok((task, json)) => {
+            guard::owe_object(json);
+            (run(task, json), json)
+        }
+        Err(Stop::Help(text)) => (print::text(&text), false),
+        Err(Stop::Wrong(text)) => {
+            print::error(&text);
+            (Err(Failure::Told(Status::Misused)), false)
+        }
+    };
+    match ended {
+        Ok(()) => 0,
+        Err(failure) => tell(describe::hinted(failure), json),
     }
 }
 
 /// On standard error always; as an object too where one was asked for and nothing of it is printed.
-fn tell(failure: &Failure, json: bool) {
-    if matches!(failure, Failure::Told) {
-        return;
+fn tell(failure: Failure, json: bool) -> i32 {
+    if !matches!(failure, Failure::Told(_)) {
+        print::note(&failure.to_string());
+        if json && guard::object_owed() {
+            let _ = print::object(&failure.json());
+        }
     }
-    eprintln!("anhkhovet: {failure}");
-    if json && guard::object_owed() {
-        let _ = print::object(&failure.json());
-    }
+    failure.status() as i32
 }

@@ -1,8 +1,9 @@
 //! `map`: the runs of sectors that have one source. All sectors of a grain have one, so one lookup a grain is enough.
 
-use crate::failure::{name, Failure};
+use crate::failure::Failure;
 use crate::files::Layers;
-use crate::print::Printer;
+use crate::names::{self, name};
+use crate::print::{self, Printer};
 use crate::progress::Progress;
 use crate::source::{file_sector, word};
 use anhkhovet::{Disk, Located, Source, SECTOR};
@@ -65,7 +66,7 @@ impl Run {
     }
 }
 
-fn runs(layers: &Layers, disk: Disk) -> Result<Vec<Run>, Failure> {
+fn runs(layers: &mut Layers, disk: Disk) -> Result<Vec<Run>, Failure> {
     let progress = Progress::start("mapping", disk.capacity);
     let mut runs: Vec<Run> = Vec::new();
     let mut first = 0;
@@ -88,41 +89,36 @@ fn runs(layers: &Layers, disk: Disk) -> Result<Vec<Run>, Failure> {
 }
 
 pub fn map(paths: &[PathBuf], json: bool) -> Result<(), Failure> {
-    let layers = Layers::open(paths)?.scattered();
+    let mut layers = Layers::open(paths)?;
     let disk = layers.disk()?;
     let Disk {
         capacity,
         grain_size,
     } = disk;
-    let runs = runs(&layers, disk)?;
+    let runs = runs(&mut layers, disk)?;
     layers.same()?;
 
-    let mut printer = Printer::new();
     if json {
-        let files: Vec<Value> = layers.paths().map(name).collect();
-        let head =
-            json!({ "capacity": capacity, "files": files, "grain_size": grain_size }).to_string();
-        // The runs go into the object one by one: there may be millions.
-        printer.text(head.trim_end_matches('}'))?;
-        printer.text(",\"runs\":[")?;
-        for (number, run) in runs.iter().enumerate() {
-            let comma = if number > 0 { "," } else { "" };
-            printer.text(&format!("{comma}{}", run.object()))?;
-        }
-        printer.text("]}\n")?;
-    } else {
-        for (layer, path) in layers.paths().enumerate() {
-            printer.text(&format!("layer {layer}: {}\n", path.display()))?;
-        }
-        printer.text(&format!(
-            "capacity {capacity} sectors, grain size {grain_size}\n"
-        ))?;
-        printer.text(
-            "       first      sectors layer kind     file sector    byte offset    size\n",
-        )?;
-        for run in &runs {
-            printer.text(&run.line())?;
-        }
+        return print::members(|object| {
+            object.member("capacity", &capacity)?;
+            names::files(object, layers.paths())?;
+            object.member("grain_size", &grain_size)?;
+            object.list("runs", |take| {
+                runs.iter().try_for_each(|run| take(&run.object()))
+            })
+        });
+    }
+    let mut printer = Printer::new();
+    for (layer, path) in layers.paths().enumerate() {
+        printer.text(&format!("layer {layer}: {}\n", name(path)))?;
+    }
+    printer.text(&format!(
+        "capacity {capacity} sectors, grain size {grain_size}\n"
+    ))?;
+    printer
+        .text("       first      sectors layer kind     file sector    byte offset    size\n")?;
+    for run in &runs {
+        printer.text(&run.line())?;
     }
     printer.done()
 }

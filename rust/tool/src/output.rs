@@ -3,103 +3,85 @@
 use crate::cli::Target;
 use crate::failure::Failure;
 use crate::guard::{Doomed, Watch};
-use crate::span::Range;
-use std::ffi::{CString, OsString};
-use std::fs::{self, File, OpenOptions};
+use crate::mapping::Mapping;
+use crate::place::Place;
+use std::ffi::CString;
+use std::fs::{File, Metadata, Permissions};
 use std::io::{self, Write};
-use std::os::unix::ffi::OsStrExt;
-use std::path::{Path, PathBuf};
-use std::process;
-use std::sync::atomic::{AtomicU64, Ordering::Relaxed};
+use std::os::unix::fs::{MetadataExt, PermissionsExt};
+use std::os::unix::io::AsRawFd;
+use std::path::PathBuf;
 
 /// A file under a name of its own, which goes unless it is finished.
 pub struct Output {
-    target: PathBuf,
-    force: bool,
-    temporary: PathBuf,
-    file: File,
+    // Before the place, whose folder it needs.
     doomed: Option<Doomed>,
+    place: Place,
+    part: CString,
+    file: File,
 }
 
 /// An output as memory.
 pub struct Mapped {
-    pub output: Output,
-    map: Range,
+    output: Output,
+    pub map: Mapping,
     _watch: Watch,
 }
 
-static COUNT: AtomicU64 = AtomicU64::new(0);
-
-fn temporary_name(target: &Path) -> Option<PathBuf> {
-    let mut name = OsString::from(".");
-    name.push(target.file_name()?);
-    name.push(format!(
-        ".{}-{}.part",
-        process::id(),
-        COUNT.fetch_add(1, Relaxed)
-    ));
-    Some(target.with_file_name(name))
-}
-
-fn c_path(path: &Path) -> io::Result<CString> {
-    CString::new(path.as_os_str().as_bytes()).map_err(|_| io::ErrorKind::InvalidInput.into())
-}
-
 impl Output {
-    pub fn create(target: &Target) -> Result<Output, Failure> {
-        let path = &target.path;
-        if let Ok(facts) = fs::symlink_metadata(path) {
-            if !facts.is_file() {
-                return Err(Failure::unfit(
-                    path,
-                    "exists and is not a plain file, so it is not replaced",
-                ));
-            }
-            if !target.force {
-                return Err(Failure::unfit(path, "exists already; --force replaces it"));
-            }
-        }
-        let temporary = temporary_name(path)
-            .ok_or_else(|| Failure::unfit(path, "is not the name of a file"))?;
-        let doomed = c_path(&temporary).map_err(Failure::system(path, "cannot be created"))?;
+    /// Whatever can be known to stand in the way is told here: before the work.
+    pub fn create(target: &Target, inputs: &[PathBuf]) -> Result<Output, Failure> {
+        let place = Place::of(target, inputs)?;
+        // Not for a moment is it open to more people than what it replaces.
+        let mode = place
+            .replaced()?
+            .map_or(0o666, |facts| facts.mode() & 0o777);
+        let unmade = || Failure::system(&place.path, "cannot be created");
+        let part = place.part_name().map_err(unmade())?;
         // Before the file is there: a signal in between would leave it.
-        let doomed = Doomed::new(doomed);
-        let file = OpenOptions::new()
-            .read(true)
-            .write(true)
-            .create_new(true)
-            .open(&temporary)
-            .map_err(Failure::system(path, "cannot be created"))?;
+        let doomed = Doomed::new(place.folder.number(), part.clone());
+        let file = place.folder.create(&part, mode).map_err(unmade())?;
         Ok(Output {
-            target: path.clone(),
-            force: target.force,
-            temporary,
-            file,
             doomed: Some(doomed),
+            place,
+            part,
+            file,
         })
     }
 
     pub fn write(&mut self, bytes: &[u8]) -> Result<(), Failure> {
         self.file
             .write_all(bytes)
-            .map_err(Failure::system(&self.target, "cannot be written"))
+            .map_err(Failure::system(&self.place.path, "cannot be written"))
     }
 
-    /// As memory of that length, of which only what is written takes room on the disk.
+    /// As memory of that length.
     pub fn map(self, length: u64) -> Result<Mapped, Failure> {
-        let told = "cannot be written, so there is no output";
+        let path = &self.place.path;
         let room = usize::try_from(length)
-            .map_err(|_| Failure::unfit(&self.target, "is too long to be mapped"))?;
-        let map = self
-            .file
-            .set_len(length)
-            .and_then(|()| Range::writable(&self.file, room))
-            .map_err(Failure::system(&self.target, told))?;
+            .map_err(|_| Failure::unfit(path, "is too long to be mapped"))?;
+        reserve(&self.file, length).map_err(|error| match error.raw_os_error() {
+            Some(libc::ENOSPC | libc::EDQUOT) => Failure::unfit(
+                path,
+                format!(
+                    "the disk is full: it has no room for {length} bytes, so there is no output"
+                ),
+            ),
+            _ => Failure::System(
+                path.clone(),
+                "cannot be written, so there is no output",
+                error,
+            ),
+        })?;
+        let map = Mapping::shared(&self.file, room).map_err(Failure::system(
+            path,
+            "cannot be mapped, so there is no output",
+        ))?;
         let full = Failure::unfit(
-            &self.target,
+            path,
             "the disk is full or failed while this was written, so there is no output",
         );
-        let watch = Watch::new(map.bytes().as_ptr(), room, &full.to_string());
+        let watch = Watch::new(map.start(), room, &full.to_string());
         Ok(Mapped {
             output: self,
             map,
@@ -109,48 +91,45 @@ impl Output {
 
     /// Under its final name, once its bytes are safely written.
     pub fn finish(mut self) -> Result<(), Failure> {
+        let path = self.place.path.clone();
+        if self.place.force {
+            // It may be another one by now.
+            if let Some(replaced) = self.place.replaced()? {
+                keep(&self.file, &replaced).map_err(Failure::system(
+                    &path,
+                    "cannot get the mode of what it replaces",
+                ))?;
+            }
+        }
         self.file
             .sync_all()
             .and_then(|()| self.rename())
             .map_err(|error| match error.kind() {
                 io::ErrorKind::AlreadyExists => Failure::unfit(
-                    &self.target,
+                    &path,
                     "was made by somebody else meanwhile; --force replaces it",
                 ),
-                _ => Failure::System(self.target.clone(), "cannot be written", error),
+                _ => Failure::System(path.clone(), "cannot be written", error),
             })?;
         self.doomed = None;
-        Ok(())
+        let told = "is written, but a crash of the machine may still undo that";
+        self.place
+            .folder
+            .sync()
+            .map_err(Failure::system(&path, told))
     }
 
     fn rename(&self) -> io::Result<()> {
-        if self.force {
-            return fs::rename(&self.temporary, &self.target);
-        }
-        let (from, to) = (c_path(&self.temporary)?, c_path(&self.target)?);
-        // SAFETY: two strings that end in a zero byte.
-        let status = unsafe {
-            libc::renameat2(
-                libc::AT_FDCWD,
-                from.as_ptr(),
-                libc::AT_FDCWD,
-                to.as_ptr(),
-                libc::RENAME_NOREPLACE,
-            )
-        };
-        if status == 0 {
-            return Ok(());
-        }
-        let error = io::Error::last_os_error();
-        match error.raw_os_error() {
-            // A file system that can't: look, then rename.
-            Some(libc::EINVAL) | Some(libc::ENOSYS) => {
-                if fs::symlink_metadata(&self.target).is_ok() {
-                    return Err(io::ErrorKind::AlreadyExists.into());
-                }
-                fs::rename(&self.temporary, &self.target)
-            }
-            _ => Err(error),
+        let Place {
+            folder,
+            name,
+            force,
+            ..
+        } = &self.place;
+        if *force {
+            folder.replace(&self.part, name)
+        } else {
+            folder.rename(&self.part, name)
         }
     }
 }
@@ -158,20 +137,41 @@ impl Output {
 impl Drop for Output {
     fn drop(&mut self) {
         if self.doomed.is_some() {
-            let _ = fs::remove_file(&self.temporary);
+            let _ = self.place.folder.remove(&self.part);
         }
     }
 }
 
+/// Room on the disk, where the file system can promise it; else only the length.
+fn reserve(file: &File, length: u64) -> io::Result<()> {
+    let long = libc::off_t::try_from(length).map_err(|_| io::ErrorKind::InvalidInput)?;
+    // SAFETY: a plain call on an open file.
+    if unsafe { libc::fallocate(file.as_raw_fd(), 0, 0, long) } == 0 {
+        return Ok(());
+    }
+    let error = io::Error::last_os_error();
+    match error.raw_os_error() {
+        Some(libc::EOPNOTSUPP | libc::ENOSYS) => file.set_len(length),
+        _ => Err(error),
+    }
+}
+
+/// Gives a file the mode of an old one, and its owner and group where the system allows that.
+fn keep(file: &File, old: &Metadata) -> io::Result<()> {
+    let new = file.metadata()?;
+    let alike = (new.uid(), new.gid()) == (old.uid(), old.gid());
+    // SAFETY: a plain call on an open file.
+    let hand = |user, group| unsafe { libc::fchown(file.as_raw_fd(), user, group) } == 0;
+    let whole = alike || hand(old.uid(), old.gid());
+    if !whole {
+        hand(libc::uid_t::MAX, old.gid());
+    }
+    // Bits that lend the owner's rights are for that owner alone.
+    let mode = old.mode() & if whole { 0o7777 } else { 0o777 };
+    file.set_permissions(Permissions::from_mode(mode))
+}
+
 impl Mapped {
-    pub fn bytes(&self) -> &[u8] {
-        self.map.bytes()
-    }
-
-    pub fn bytes_mut(&mut self) -> &mut [u8] {
-        self.map.bytes_mut()
-    }
-
     /// Cut to the result's length and under its final name.
     pub fn finish(self, length: u64) -> Result<(), Failure> {
         let Mapped {
@@ -179,14 +179,11 @@ impl Mapped {
             map,
             _watch,
         } = self;
-        let path = output.target.clone();
-        map.flush()
-            .map_err(Failure::system(&path, "cannot be written"))?;
         drop(map);
         output
             .file
             .set_len(length)
-            .map_err(Failure::system(&path, "cannot be written"))?;
+            .map_err(Failure::system(&output.place.path, "cannot be written"))?;
         output.finish()
     }
 }

@@ -1,17 +1,21 @@
 //! `sector` and `read`: one virtual sector.
 
 use crate::cli::Target;
-use crate::failure::{name, Failure};
+use crate::failure::Failure;
 use crate::files::Layers;
+use crate::names::{hex, put_name};
 use crate::output::Output;
 use crate::print::{self, Printer};
 use crate::source;
-use anhkhovet::{Source, SECTOR};
+use anhkhovet::{Located, Source, SECTOR};
 use serde_json::{json, Value};
 use std::path::PathBuf;
 
+/// As much is read and told at once: the payload of a packed grain may be as long as the file.
+const PART: u64 = 1 << 20;
+
 pub fn sector(paths: &[PathBuf], sector: u64, json: bool) -> Result<(), Failure> {
-    let layers = Layers::open(paths)?.scattered();
+    let mut layers = Layers::open(paths)?;
     let found = layers.locate(sector)?;
     layers.same()?;
     print::answer(
@@ -21,56 +25,94 @@ pub fn sector(paths: &[PathBuf], sector: u64, json: bool) -> Result<(), Failure>
     )
 }
 
+/// A located sector and its bytes.
+struct Content {
+    layers: Layers,
+    sector: u64,
+    found: Located,
+}
+
+impl Content {
+    fn length(&self) -> u64 {
+        match self.found.source {
+            Source::Absent | Source::Zero | Source::Stored { .. } => SECTOR,
+            Source::Packed { size, .. } => size,
+        }
+    }
+
+    /// Hands over the bytes, part by part, each read before the files were looked at and found unchanged.
+    fn each(&self, mut take: impl FnMut(&[u8]) -> Result<(), Failure>) -> Result<(), Failure> {
+        if let Source::Absent | Source::Zero = self.found.source {
+            return take(&[0; SECTOR as usize]);
+        }
+        let place = self.layers.place(self.found.layer, self.sector);
+        let mut at = place.start;
+        while at < place.end {
+            let end = place.end.min(at + PART);
+            let bytes = self.layers.part(self.found.layer, at..end)?;
+            self.layers.same()?;
+            take(&bytes)?;
+            at = end;
+        }
+        Ok(())
+    }
+
+    fn print(&self) -> Result<(), Failure> {
+        let mut printer = Printer::new();
+        self.each(|bytes| printer.bytes(bytes))?;
+        printer.done()
+    }
+
+    fn object(&self, target: Option<&Target>) -> Result<Value, Failure> {
+        let mut object = source::object(&self.layers, self.sector, &self.found);
+        object["length"] = json!(self.length());
+        match target {
+            Some(target) => put_name(&mut object, "output", &target.path),
+            None => {
+                let mut digits = String::new();
+                self.each(|bytes| {
+                    digits += &hex(bytes);
+                    Ok(())
+                })?;
+                object["bytes"] = Value::String(digits);
+            }
+        }
+        Ok(object)
+    }
+}
+
 pub fn read(
     paths: &[PathBuf],
     sector: u64,
     target: Option<Target>,
     json: bool,
 ) -> Result<(), Failure> {
-    let layers = Layers::open(paths)?.scattered();
-    let found = layers.locate(sector)?;
-    let bytes = match found.source {
-        Source::Absent | Source::Zero => vec![0; SECTOR as usize],
-        Source::Stored { .. } | Source::Packed { .. } => {
-            source::bytes(&layers, sector, &found)?.to_vec()
-        }
+    let mut layers = Layers::open(paths)?;
+    let output = match &target {
+        Some(target) => Some(Output::create(target, paths)?),
+        None => None,
     };
+    let found = layers.locate(sector)?;
     layers.same()?;
-
-    if let Some(target) = &target {
-        let mut output = Output::create(target)?;
-        output.write(&bytes)?;
+    let content = Content {
+        layers,
+        sector,
+        found,
+    };
+    if let Some(mut output) = output {
+        content.each(|bytes| output.write(bytes))?;
         output.finish()?;
     }
     if let Source::Packed { size, offset, .. } = found.source {
-        eprintln!(
-            "anhkhovet: sector {sector} is packed: these {size} bytes are the closed payload of its whole grain, and once unpacked it is sector {offset} of that"
-        );
+        print::note(&format!(
+            "sector {sector} is packed: these {size} bytes are the closed payload of its whole grain, and once unpacked it is sector {offset} of that"
+        ));
     }
     if json {
-        let mut object = source::object(&layers, sector, &found);
-        object["length"] = json!(bytes.len());
-        match &target {
-            Some(target) => object["output"] = name(&target.path),
-            None => object["bytes"] = Value::String(hex(&bytes)),
-        }
-        print::object(&object)
+        print::object(&content.object(target.as_ref())?)
     } else if target.is_none() {
-        let mut printer = Printer::new();
-        printer.bytes(&bytes)?;
-        printer.done()
+        content.print()
     } else {
         Ok(())
     }
-}
-
-/// Two digits a byte.
-pub fn hex(bytes: &[u8]) -> String {
-    const DIGITS: &[u8; 16] = b"0123456789abcdef";
-    let mut text = String::with_capacity(2 * bytes.len());
-    for byte in bytes {
-        text.push(DIGITS[usize::from(byte >> 4)].into());
-        text.push(DIGITS[usize::from(byte & 15)].into());
-    }
-    text
 }

@@ -1,7 +1,7 @@
 //! Where a sector comes from, as the tool tells it.
 
-use crate::failure::{name, Failure};
 use crate::files::Layers;
+use crate::names::{name, put_name};
 use anhkhovet::{Located, Source, SECTOR};
 use serde_json::{json, Value};
 
@@ -24,7 +24,7 @@ pub fn file_sector(source: Source) -> Option<u64> {
 
 /// One sector's source, in words.
 pub fn told(layers: &Layers, sector: u64, found: &Located) -> String {
-    let file = layers.path(found.layer).display().to_string();
+    let file = name(layers.path(found.layer));
     let place = format!("layer {} ({file})", found.layer);
     match found.source {
         Source::Absent if layers.count() == 1 => {
@@ -48,9 +48,9 @@ pub fn object(layers: &Layers, sector: u64, found: &Located) -> Value {
     let mut object = json!({
         "sector": sector,
         "layer": found.layer,
-        "file": name(layers.path(found.layer)),
         "kind": word(found.source),
     });
+    put_name(&mut object, "file", layers.path(found.layer));
     if let Some(at) = file_sector(found.source) {
         object["file_sector"] = json!(at);
         object["byte_offset"] = json!(at * SECTOR);
@@ -60,14 +60,4 @@ pub fn object(layers: &Layers, sector: u64, found: &Located) -> Value {
         object["offset"] = json!(offset);
     }
     object
-}
-
-/// The bytes that the grain reader hands back for a located sector: none for absent and zero.
-pub fn bytes<'a>(layers: &'a Layers, sector: u64, found: &Located) -> Result<&'a [u8], Failure> {
-    let image = layers.bytes(found.layer);
-    match image.get(anhkhovet::read_part(image, sector)) {
-        Some(bytes) => Ok(bytes),
-        // Only an image that changes under the tool gets here.
-        None => Err(Failure::changed(layers.path(found.layer))),
-    }
 }

@@ -1,6 +1,8 @@
 //! Files that change while they are mapped: a report, never an answer, and nothing left behind.
 
 mod common;
+#[path = "common/held.rs"]
+mod held;
 #[path = "common/image.rs"]
 mod image;
 
@@ -52,7 +54,7 @@ fn cut_to_nothing() {
     let digest = begun(&folder, &["digest", "disk"]);
     image.length(0);
     let ran = ended(digest);
-    ran.ill("disk: the file was cut while it was read");
+    ran.ill("disk: the file changed while it was read");
     no_wrong_line(&ran);
 }
 
@@ -64,7 +66,7 @@ fn a_layer_of_a_chain_cut_to_nothing() {
     let digest = begun(&folder, &["digest", "disk", "delta"]);
     image.length(0);
     let ran = ended(digest);
-    ran.ill("disk: the file was cut while it was read");
+    ran.ill("disk: the file changed while it was read");
     no_wrong_line(&ran);
 }
 
@@ -106,37 +108,7 @@ fn nobody_reads_on() {
 
 mod writing {
     use super::*;
-    use common::names;
-    use std::thread::sleep;
-    use std::time::{Duration, Instant};
-
-    /// Big enough that writing takes far longer than a test needs to see that it began.
-    const BIG: u64 = 1 << 21;
-
-    /// Starts a command that writes, and holds it once its unfinished output is there.
-    fn held(folder: &Folder, words: &[&str]) -> Child {
-        let child = tool(folder.path())
-            .args(words)
-            .stdout(Stdio::piped())
-            .stderr(Stdio::piped())
-            .spawn()
-            .expect("the tool starts");
-        let begun = Instant::now();
-        while !names(folder.path())
-            .iter()
-            .any(|name| name.ends_with(".part"))
-        {
-            assert!(begun.elapsed() < Duration::from_secs(60), "no output begun");
-            sleep(Duration::from_micros(200));
-        }
-        signal(&child, libc::SIGSTOP);
-        child
-    }
-
-    fn signal(child: &Child, signal: libc::c_int) {
-        // SAFETY: the child is ours and was not waited for yet.
-        unsafe { libc::kill(child.id() as libc::pid_t, signal) };
-    }
+    use held::{held, signal, BIG};
 
     fn ran(child: Child) -> Ran {
         Ran::of(child.wait_with_output().expect("it ends"))
@@ -178,19 +150,6 @@ mod writing {
         signal(&child, libc::SIGCONT);
         ran(child).ill("disk: the file changed while it was read");
         assert_eq!(folder.names(), ["disk"]);
-    }
-
-    #[test]
-    fn stopped_by_a_signal() {
-        for stop in [libc::SIGTERM, libc::SIGINT, libc::SIGHUP] {
-            let folder = Folder::new();
-            Image::full(&folder.at("disk"), BIG);
-            let child = held(&folder, &["normal", "disk", "-o", "out"]);
-            signal(&child, stop);
-            signal(&child, libc::SIGCONT);
-            assert_eq!(ran(child).status, None);
-            assert_eq!(folder.names(), ["disk"]);
-        }
     }
 
     #[test]

@@ -7,7 +7,10 @@ use std::fs;
 
 const FILES: [&str; 2] = ["tool-base.vmdk", "tool-packed.vmdk"];
 
-fn compare(folder: &Folder, image: &str, list: &str, more: &[&str]) -> Ran {
+/// What a sector or a grain of zeros has.
+const ZEROS: &str = "076a27c79e5ace2a3d47f9dd2e83e4ff6ea8872b3c2218f66c92b89b55f36560";
+
+fn compare(folder: &Folder, image: &str, list: &[u8], more: &[&str]) -> Ran {
     fs::write(folder.at("list"), list).expect("written");
     run(
         folder.path(),
@@ -21,13 +24,21 @@ fn printed(folder: &Folder, image: &str, more: &[&str]) -> String {
         .text()
 }
 
+/// The list does not hold: these are the lines on standard output, and nothing is on standard error.
+fn fails(ran: &Ran, lines: &[&str]) {
+    assert_eq!((ran.status, ran.err.as_str()), (Some(3), ""));
+    assert_eq!(ran.text().lines().collect::<Vec<_>>(), lines);
+}
+
 #[test]
-fn what_is_printed_agrees() {
+fn what_is_printed_agrees_and_is_complete() {
     let folder = Folder::new().with(&FILES);
     for image in FILES {
-        for more in [&[][..], &["--grain"][..]] {
-            let list = printed(&folder, image, more);
-            compare(&folder, image, &list, more).well();
+        for more in [&["--complete"][..], &["--complete", "--grain"][..]] {
+            let list = printed(&folder, image, &more[1..]);
+            let ran = compare(&folder, image, list.as_bytes(), more);
+            let none = "none of the disk's";
+            assert!(ran.well().text().contains(none), "{}", ran.text());
         }
     }
 }
@@ -52,41 +63,104 @@ fn a_part_of_a_list_and_other_forms_agree() {
     let all = printed(&folder, FILES[0], &[]);
     let line = all.lines().nth(2).expect("a line");
     let (_, digest) = line.split_once(' ').expect("a digest");
-    let list = format!("# sector, digest\n\n2, {}\r\n", digest.to_uppercase());
-    let ran = compare(&folder, FILES[0], &list, &[]);
-    assert_eq!(
-        ran.well().text(),
-        "list: all 1 digests agree; the disk has 2048 sectors\n"
+    let plain = format!("# sector, digest\n\n2, {}\r\n", digest.to_uppercase());
+    let marked = format!("\u{feff}2 {digest}\r\n\r\n\t# caf\u{e9}\r\n");
+    let latin = [b"# caf\xe9\n2\t", digest.as_bytes()].concat();
+    for list in [plain.as_bytes(), marked.as_bytes(), &latin] {
+        let ran = compare(&folder, FILES[0], list, &[]);
+        assert_eq!(
+            ran.well().text(),
+            "list: all 1 digests agree; 2047 of the disk's 2048 sectors are left out\n"
+        );
+        let ran = compare(&folder, FILES[0], list, &["--json"]);
+        assert_eq!(
+            ran.well().text(),
+            "{\"differences\":[],\"agree\":true,\"compared\":1,\"disk\":2048,\"left_out\":2047,\"of\":\"sector\"}\n"
+        );
+    }
+}
+
+#[test]
+fn what_is_left_out_is_a_failure_if_the_list_is_to_be_complete() {
+    let folder = Folder::new().with(&FILES);
+    let list = format!("1000 {ZEROS}\n1001 {ZEROS}\n");
+    fails(
+        &compare(&folder, FILES[0], list.as_bytes(), &["--complete"]),
+        &["list: all 2 digests agree; 2046 of the disk's 2048 sectors are left out, so it is not complete"],
     );
-    let ran = compare(&folder, FILES[0], &list, &["--json"]);
+    let ran = compare(
+        &folder,
+        FILES[0],
+        list.as_bytes(),
+        &["--complete", "--json"],
+    );
+    fails(&ran, &["{\"differences\":[],\"agree\":false,\"compared\":2,\"disk\":2048,\"left_out\":2046,\"of\":\"sector\"}"]);
+    // A packed grain's line stands for all of its sectors.
+    let packed = printed(&folder, FILES[1], &[]);
+    let line = packed.lines().nth(128).expect("a line");
+    let ran = compare(&folder, FILES[1], line.as_bytes(), &[]);
     assert_eq!(
         ran.well().text(),
-        "{\"agree\":true,\"compared\":1,\"disk\":2048,\"of\":\"sector\"}\n"
+        "list: all 1 digests agree; 1920 of the disk's 2048 sectors are left out\n"
     );
 }
 
 #[test]
-fn the_first_difference_is_named() {
+fn all_differences_are_told() {
     let folder = Folder::new().with(&FILES);
-    let all = printed(&folder, FILES[0], &[]);
-    let zeros = all
-        .lines()
-        .last()
-        .and_then(|line| line.split(' ').nth(1))
-        .expect("a digest");
     let list: String = (1000..1010)
         .rev()
-        .chain(0..3)
-        .map(|sector| format!("{sector} {zeros}\n"))
+        .chain(0..2)
+        .map(|sector| format!("{sector} {ZEROS}\n"))
         .collect();
-    let ran = compare(&folder, FILES[0], &list, &[]);
-    ran.ill("list: line 11: sector 0 differs: the list has 076a27c79e5ace2a");
-    assert_eq!(ran.out, b"");
-    let ran = compare(&folder, FILES[0], &list, &["--json"]);
-    ran.ill("sector 0 differs");
-    assert!(ran
-        .text()
-        .starts_with("{\"failed\":\"list: line 11: sector 0 differs"));
+    let found = "32beecb58a128af8248504600bd203dcc676adf41045300485655e6b8780a01d";
+    let differs =
+        |sector| format!("sector {sector} differs: the list has {ZEROS}, the image {found}");
+    fails(
+        &compare(&folder, FILES[0], list.as_bytes(), &[]),
+        &[
+            &format!("list: line 11: {}", differs(0)),
+            &format!("list: line 12: {}", differs(1)),
+            "list: 2 of 12 lines fail; 2036 of the disk's 2048 sectors are left out",
+        ],
+    );
+    let object = |line: u64, sector: u64| {
+        let sentence = differs(sector);
+        format!("{{\"found\":\"{found}\",\"kind\":\"digest\",\"line\":{line},\"listed\":\"{ZEROS}\",\"sector\":{sector},\"sentence\":\"line {line}: {sentence}\"}}")
+    };
+    let (first, second) = (object(11, 0), object(12, 1));
+    let rest = "\"agree\":false,\"compared\":12,\"disk\":2048,\"left_out\":2036,\"of\":\"sector\"";
+    fails(
+        &compare(&folder, FILES[0], list.as_bytes(), &["--json"]),
+        &[&format!("{{\"differences\":[{first},{second}],{rest}}}")],
+    );
+}
+
+#[test]
+fn a_sector_that_is_named_twice_is_told_by_its_line() {
+    let folder = Folder::new().with(&FILES);
+    let list = format!("1000 {ZEROS}\n").repeat(2048);
+    let ran = compare(&folder, FILES[0], list.as_bytes(), &[]);
+    assert_eq!(ran.status, Some(3));
+    let text = ran.text();
+    let mut lines = text.lines();
+    assert_eq!(
+        lines.next(),
+        Some("list: line 2: sector 1000 is named by a line before")
+    );
+    assert_eq!(
+        lines.last(),
+        Some("list: 2047 of 2048 lines fail; 2047 of the disk's 2048 sectors are left out")
+    );
+    let grains = printed(&folder, FILES[1], &["--grain"]);
+    let twice = format!("{grains}{}\n", grains.lines().nth(1).expect("a line"));
+    fails(
+        &compare(&folder, FILES[1], twice.as_bytes(), &["--grain"]),
+        &[
+            "list: line 17: sector 128 is named by a line before",
+            "list: 1 of 17 lines fail; none of the disk's 16 grains is left out",
+        ],
+    );
 }
 
 #[test]
@@ -95,29 +169,63 @@ fn packed_and_open_digests_are_not_mixed_up() {
     let packed = printed(&folder, FILES[1], &["--grain"]);
     let line = packed.lines().nth(1).expect("a line");
     let open = line.trim_end_matches(" packed");
-    compare(&folder, FILES[1], line, &["--grain"]).well();
-    compare(&folder, FILES[1], open, &["--grain"]).ill("sector 128 is packed in the image");
-    compare(&folder, FILES[0], line, &["--grain"]).ill("sector 128 is not packed in the image");
+    compare(&folder, FILES[1], line.as_bytes(), &["--grain"]).well();
+    let first = |ran: Ran| {
+        assert_eq!(ran.status, Some(3));
+        ran.text().lines().next().expect("a line").to_string()
+    };
+    assert_eq!(
+        first(compare(&folder, FILES[1], open.as_bytes(), &["--grain"])),
+        "list: line 1: sector 128 is packed in the image, in the grain from sector 128 on, and the list has a digest of open bytes"
+    );
+    assert_eq!(
+        first(compare(&folder, FILES[0], line.as_bytes(), &["--grain"])),
+        "list: line 1: sector 128 is not packed in the image, and the list says that it is"
+    );
     let inside = line.replace("128 ", "130 ");
-    compare(&folder, FILES[1], &inside, &[])
-        .ill("sector 130 is not the first of its packed grain, which is 128");
+    assert_eq!(
+        first(compare(&folder, FILES[1], inside.as_bytes(), &[])),
+        "list: line 1: sector 130 is not the first of its grain, which is 128"
+    );
 }
 
 #[test]
-fn a_list_of_no_form_is_told_by_its_line() {
+fn lines_of_no_form_and_past_the_end_are_told_and_the_rest_compared() {
     let folder = Folder::new().with(&FILES);
-    let digest = "0".repeat(64);
-    for list in [
-        "0 1234\n",
-        "zero\n",
-        &format!("0 {digest} closed\n"),
-        &format!("0 {digest} packed packed\n"),
-    ] {
-        compare(&folder, FILES[0], &format!("# a list\n{list}"), &[])
-            .ill("list: line 2 is not of the form");
-    }
-    compare(&folder, FILES[0], "# nothing\n", &[]).ill("has no line to compare with");
-    compare(&folder, FILES[0], &format!("2048 {digest}\n"), &[]).ill("refused 20");
-    compare(&folder, FILES[0], &format!("5 {digest}\n"), &["--grain"])
-        .ill("not the first of a grain");
+    let list = format!(
+        "# a list\n0 1234\nzero\n0 {ZEROS} closed\n0 {ZEROS} packed packed\n-1 {ZEROS}\n\
+         2048 {ZEROS}\n18446744073709551615 {ZEROS}\n18446744073709551616 {ZEROS}\n1000 {ZEROS}\n"
+    );
+    let form = |line: u64| format!("list: line {line} is not of the form: sector, digest");
+    let past = |line: u64, sector: &str| {
+        format!(
+            "list: line {line}: sector {sector} is past the end of the disk, whose last is 2047"
+        )
+    };
+    fails(
+        &compare(&folder, FILES[0], list.as_bytes(), &[]),
+        &[
+            &form(2),
+            &form(3),
+            &form(4),
+            &form(5),
+            &form(6),
+            &past(7, "2048"),
+            &past(8, "18446744073709551615"),
+            &form(9),
+            "list: 8 of 9 lines fail; 2047 of the disk's 2048 sectors are left out",
+        ],
+    );
+    let inside = format!("5 {ZEROS}\n");
+    fails(
+        &compare(&folder, FILES[0], inside.as_bytes(), &["--grain"]),
+        &[
+            "list: line 1: sector 5 is not the first of its grain, which is 0",
+            "list: 1 of 1 lines fail; 16 of the disk's 16 grains are left out",
+        ],
+    );
+    fails(
+        &compare(&folder, FILES[0], b"# nothing\n", &[]),
+        &["list: there is no line to compare with; 2048 of the disk's 2048 sectors are left out"],
+    );
 }

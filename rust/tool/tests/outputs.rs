@@ -1,11 +1,13 @@
 //! Outputs: whole under their name, or not there at all.
 
+#[path = "common/anybody.rs"]
+mod anybody;
 mod common;
 
-use common::{emulated, names, program, run, Folder, Ran, TOOL};
-use std::fs::{self, Permissions};
-use std::os::unix::fs::{symlink, PermissionsExt};
-use std::os::unix::process::CommandExt;
+use anybody::{by_anybody, mode, open_folder};
+use common::{emulated, names, run, Folder, Ran, TOOL};
+use std::fs;
+use std::os::unix::fs::symlink;
 use std::path::Path;
 use std::process::{Command, Stdio};
 
@@ -61,38 +63,65 @@ fn a_folder_that_is_not_there_or_no_folder() {
             let words = [&words[..], &[out]].concat();
             run(folder.path(), &words).ill("cannot be created");
         }
-        run(folder.path(), &[&words[..], &[".."]].concat()).ill("..: ");
+        for out in ["..", "out/", "out/.", "/"] {
+            let told = format!("{out}: is not the name of a file");
+            run(folder.path(), &[&words[..], &[out]].concat()).ill(&told);
+        }
     }
     assert_eq!(folder.names(), CHAIN);
 }
 
-/// Root may write anywhere: it hands the run to another user, whom the folder's mode binds.
-fn as_anybody(command: &mut Command) {
-    // SAFETY: a plain call.
-    if unsafe { libc::geteuid() } == 0 {
-        command.uid(65534).gid(65534);
+/// The name beside it, which is longer, must not be in the way.
+#[test]
+fn a_name_as_long_as_names_can_be() {
+    let folder = Folder::new().with(&CHAIN);
+    let (longest, longer) = ("n".repeat(255), "n".repeat(256));
+    for words in writers() {
+        run(
+            folder.path(),
+            &[&words[..], &[&longest, "--force"]].concat(),
+        )
+        .well();
+        run(folder.path(), &[&words[..], &[&longer]].concat()).ill("cannot be created");
     }
+    assert_eq!(folder.names()[0], longest);
+    assert_eq!(folder.names().len(), 4);
+}
+
+/// A target that cannot be made is told though the image would be refused too: nobody waits for that.
+#[test]
+fn a_bad_target_is_told_before_the_work() {
+    let folder = Folder::new().with(&CHAIN);
+    fs::write(folder.at("none"), [7; 4096]).expect("written");
+    fs::write(folder.at("mine"), "mine").expect("written");
+    let commands = [
+        &["read", "none", "0", "-o"][..],
+        &["read", "tool-base.vmdk", "2048", "-o"][..],
+        &["normal", "none", "-o"][..],
+        &["collapse", "none", "none", "-o"][..],
+        &["collapse", CHAIN[0], CHAIN[1], "none", "-o"][..],
+    ];
+    for words in commands {
+        for (out, told) in [
+            ("nowhere/out", "nowhere/out: cannot be created"),
+            ("mine", "mine: exists already"),
+            ("out/", "out/: is not the name of a file"),
+        ] {
+            run(folder.path(), &[words, &[out]].concat()).ill(told);
+        }
+    }
+    assert_eq!(folder.names().len(), 5);
 }
 
 #[test]
 fn a_folder_that_may_not_be_written() {
-    let folder = Folder::new().with(&CHAIN);
-    fs::set_permissions(folder.path(), Permissions::from_mode(0o755)).expect("a mode");
-    // Another user may not look into the place where the tool was built.
-    // cp copies it, since a file that this process writes may be held open by another test's child and then not run.
-    let copied = Command::new("cp").arg(TOOL).arg(folder.at("tool")).status();
-    assert!(copied.expect("cp").success());
+    let folder = open_folder().with(&CHAIN);
     fs::create_dir(folder.at("closed")).expect("a folder");
-    fs::set_permissions(folder.at("closed"), Permissions::from_mode(0o555)).expect("a mode");
+    mode(&folder, "closed", 0o555);
     for words in writers() {
-        let mut command = program(&folder.at("tool").to_string_lossy());
-        command
-            .current_dir(folder.path())
-            .args(&words)
-            .arg("closed/out");
-        as_anybody(&mut command);
-        let ran = Ran::of(command.output().expect("the tool starts"));
-        ran.ill("closed/out: cannot be created: Permission denied");
+        let ran = by_anybody(&folder).args(&words).arg("closed/out").output();
+        Ran::of(ran.expect("the tool starts"))
+            .ill("closed/out: cannot be created: Permission denied");
     }
     assert_eq!(names(&folder.at("closed")), Vec::<String>::new());
 }
@@ -107,6 +136,25 @@ fn by_shell(folder: &Path, first: &str, words: &[&str]) -> Ran {
     command.arg("-c").arg(start).arg(TOOL).args(words);
     command.current_dir(folder).stdin(Stdio::null());
     Ran::of(command.output().expect("a shell"))
+}
+
+/// The check alone wants over 1 MiB.
+#[test]
+fn a_shell_that_leaves_little_stack() {
+    if emulated() {
+        println!("NOT RUN: a small stack, since it would be the emulator's");
+        return;
+    }
+    let folder = Folder::new().with(&CHAIN);
+    for limit in ["ulimit -s 1024", "ulimit -s 256"] {
+        for words in writers() {
+            let words = [&words[..], &["out", "--force"]].concat();
+            by_shell(folder.path(), limit, &words).well();
+        }
+        for words in [["check"], ["map"], ["digest"]] {
+            by_shell(folder.path(), limit, &[&words[..], &[CHAIN[0]]].concat()).well();
+        }
+    }
 }
 
 #[test]

@@ -33,6 +33,7 @@ fn every_refusal() {
         ("header", (0..=7).collect()),
         ("lookup", (0..=10).chain([20]).collect()),
         ("chain", (0..=10).chain([20, 22, 24]).collect()),
+        ("frame", (0..=8).chain([21]).collect()),
         ("normal", check.iter().copied().chain([21, 23]).collect()),
         (
             "collapse",

@@ -1,11 +1,13 @@
 //! Generated images: a shape is chosen, built into bytes, and perhaps damaged.
 
+mod anywhere;
 mod build;
 mod damage;
 mod edges;
 mod parts;
 mod shape;
 
+pub use anywhere::anywhere;
 pub use build::build;
 pub use damage::{damage, suited};
 pub use shape::{size, Plan, Shape};

@@ -67,9 +67,14 @@ impl Ran {
         self
     }
 
-    /// It ended with 1, and standard error has these words.
+    /// A file could not be read or written, or changed: status 4, and standard error has these words.
     pub fn ill(&self, words: &str) -> &Ran {
-        assert_eq!(self.status, Some(1), "{}", self.err);
+        self.ended(4, words)
+    }
+
+    /// It ended with this status, and standard error has these words.
+    pub fn ended(&self, status: i32, words: &str) -> &Ran {
+        assert_eq!(self.status, Some(status), "{}", self.err);
         assert!(self.err.contains(words), "no '{words}' in: {}", self.err);
         self
     }

@@ -190,6 +190,67 @@ fn descriptors() {
     }
 }
 
+/// The areas of an image but its grains, as the library lists them.
+fn frame(image: &[u8]) -> Vec<[u64; 3]> {
+    let mut list = [0; 96];
+    let framed = raw::frame(image, &mut list);
+    assert_eq!(framed.number, 0);
+    let areas = list.chunks(3).take(framed.count as usize);
+    areas.map(|area| [area[0], area[1], area[2]]).collect()
+}
+
+/// qemu-img lays all its images out alike; VMDKstream has a footer, and COWD another layout.
+#[test]
+fn frames() {
+    let qemu = [
+        [1, 0, 1],
+        [2, 1, 20],
+        [3, 26, 1],
+        [4, 21, 1],
+        [5, 27, 4],
+        [6, 22, 4],
+    ];
+    let stream = [
+        [1, 0, 1],
+        [2, 1, 1],
+        [3, 141, 1],
+        [5, 136, 4],
+        [7, 143, 1],
+        [8, 144, 1],
+    ];
+    for (name, _, _) in DISKS {
+        let expected = if name == "vmdkstream" { stream } else { qemu };
+        assert_eq!(frame(&bytes(&format!("{name}.vmdk"))), expected, "{name}");
+    }
+    let cowd = [[1, 0, 4], [3, 4, 1], [5, 5, 32]];
+    assert_eq!(frame(&bytes("cowd-s001.vmdk")), cowd);
+}
+
+/// Of an image without packed grains the frame alone, zeros elsewhere, has the same check, lookups and frame.
+#[test]
+fn frames_decide() {
+    for (name, _, counts) in DISKS {
+        let image = bytes(&format!("{name}.vmdk"));
+        let mut alone = vec![0; image.len()];
+        for [_, first, sectors] in frame(&image) {
+            let part = (first * SECTOR) as usize..((first + sectors) * SECTOR) as usize;
+            alone[part.clone()].copy_from_slice(&image[part]);
+        }
+        assert_eq!(frame(&alone), frame(&image), "{name}");
+        if counts[PACKED as usize] > 0 {
+            // What is left of a packed grain is a marker of zeros.
+            assert_eq!(raw::check(&alone).number, 10, "{name}");
+            continue;
+        }
+        let verdict = raw::check(&image);
+        assert_eq!(raw::check(&alone), verdict, "{name}");
+        for sector in 0..=verdict.capacity {
+            let located = raw::lookup(&image, sector);
+            assert_eq!(raw::lookup(&alone, sector), located, "{name} {sector}");
+        }
+    }
+}
+
 /// No sample is left out.
 #[test]
 fn all_samples() {

@@ -1,6 +1,6 @@
 //! The lines that the program prints for a case: a call and the numbers of its answer.
 
-use super::{Case, CHAIN, COLLAPSE, FIND, IMAGE, SEARCHED, TEXT};
+use super::{Case, CHAIN, COLLAPSE, FIND, FRAME, IMAGE, MOST_WORDS, SEARCHED, TEXT};
 use crate::input::Input;
 use crate::numbers::{described, digest, extent, found, handed_over, line, located};
 use plain::{Extent, Refusal};
@@ -11,6 +11,7 @@ impl Case {
             IMAGE => self.image_lines(),
             COLLAPSE => self.collapse_lines(),
             TEXT => self.text_lines(),
+            FRAME => vec![self.frame_line()],
             _ => Vec::new(),
         };
         for sector in &self.sectors {
@@ -77,6 +78,14 @@ impl Case {
         let mut out = vec![170; self.room as usize];
         let w = plain::over(result, &mut out);
         line(call, &[w.number, w.place, w.length, digest(&out)])
+    }
+
+    /// The frame's answer, and the whole list, whose words were 170 before.
+    fn frame_line(&self) -> String {
+        let mut list = vec![170; MOST_WORDS.min(self.room as usize)];
+        let f = plain::frame(&self.bytes, &mut list);
+        let answer = line("frame ", &[f.number, f.place, f.count]);
+        line(&answer, &list)
     }
 
     fn text_lines(&self) -> Vec<String> {

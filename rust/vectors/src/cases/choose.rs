@@ -1,7 +1,7 @@
 //! Which cases are stored: real images from samples, and generated ones that reach each answer of each call.
 
 use super::record::Recorder;
-use super::{Case, IMAGE, TEXT};
+use super::{Case, FIND, FRAME, IMAGE, TEXT};
 use compare::cases::case;
 use compare::rng::Rng;
 use compare::run::Run;
@@ -81,6 +81,8 @@ fn wanted(case: &Case, answer: &str) -> u64 {
     match (is_short(case), refused) {
         (true, _) => 15,
         (false, true) => 2,
+        // By all its groups one is enough.
+        (false, false) if case.asked == FRAME => 1,
         (false, false) => 3,
     }
 }
@@ -101,7 +103,7 @@ fn candidates() -> Vec<Case> {
 
 /// Texts and lists are short, images are not: a COWD table alone takes 16 KB.
 fn is_short(case: &Case) -> bool {
-    case.asked >= TEXT
+    [TEXT, FIND].contains(&case.asked)
 }
 
 /// Whether a case is one for the program, and small enough to be stored.
@@ -124,6 +126,12 @@ fn kind(case: &Case, line: &str) -> String {
             // By its length too, since the shortest results have no grain.
             let length: u64 = words[3].parse().unwrap_or(0);
             format!("{call} {number} {} {}", length == case.room, length / 8192)
+        }
+        "frame" if number == "0" => {
+            let mut groups: Vec<&str> = words[4..].chunks(3).map(|area| area[0]).collect();
+            groups.truncate(words[3].parse().unwrap_or(0));
+            groups.dedup();
+            format!("{call} {number} {cowd} {}", groups.concat())
         }
         "normal" | "collapse" | "descriptor" | "find" => format!("{call} {number}"),
         _ => format!("{call} {number} {cowd}"),

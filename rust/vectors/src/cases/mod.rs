@@ -23,7 +23,11 @@ const TEXT: u64 = 3;
 /// the grain reader alone.
 const FIND: u64 = 4;
 
+/// The frame, in a list of as many words as the room says, `MOST_WORDS` at most.
+const FRAME: u64 = 6;
+
 const SEARCHED: usize = 32;
+const MOST_WORDS: usize = 96;
 
 #[derive(Clone, Debug, Default, PartialEq, Eq)]
 pub struct Case {
@@ -31,7 +35,7 @@ pub struct Case {
     sectors: Vec<u64>,
     lengths: Vec<u64>,
     bytes: Vec<u8>,
-    /// How long a lent output is.
+    /// How long a lent output or list is.
     room: u64,
 }
 

@@ -1,9 +1,9 @@
 //! The generators of `compare`, listened to: a side that keeps what it is asked and answers as the plain one does.
 
-use super::{Case, CHAIN, COLLAPSE, FIND, IMAGE, SEARCHED, TEXT};
+use super::{Case, CHAIN, COLLAPSE, FIND, FRAME, IMAGE, SEARCHED, TEXT};
 use crate::numbers::extent;
 use compare::side::{Plain, Side};
-use plain::{Described, Extent, Found, Head, Located, Part, Verdict, Written};
+use plain::{Described, Extent, Found, Framed, Head, Located, Part, Verdict, Written};
 use std::cell::RefCell;
 
 #[derive(Default)]
@@ -75,6 +75,15 @@ impl Side for Recorder {
     fn read(&self, image: &[u8], sector: u64) -> Part {
         self.image(image, &[sector]);
         Plain.read(image, sector)
+    }
+    fn frame(&self, image: &[u8], list: &mut [u64]) -> Framed {
+        self.keep(Case {
+            asked: FRAME,
+            bytes: image.to_vec(),
+            room: list.len() as u64,
+            ..Case::default()
+        });
+        Plain.frame(image, list)
     }
     fn normal(&self, image: &[u8], out: &mut [u8]) -> Written {
         self.keep(Case {

@@ -1,0 +1,167 @@
+//! The commands and their words, as clap knows them.
+
+use clap::{value_parser, Arg, ArgAction, Command};
+use std::path::PathBuf;
+
+const STATUS: &str = "\
+Exit status, of several files the greatest:
+  0  yes
+  1  refused by the rules of the format
+  2  wrong use
+  3  a list that does not hold
+  4  a file that cannot be read or written, or that changed
+
+docs/TOOL.md has an example for each command.";
+
+const IMAGE_OUT: &str = "The file to write; it appears when it is whole";
+
+fn files(about: &'static str) -> Arg {
+    Arg::new("files")
+        .value_name("FILE")
+        .help(about)
+        .value_parser(value_parser!(PathBuf))
+        .num_args(1..)
+        .required(true)
+}
+
+fn layers() -> Arg {
+    files("The image, or the layers of a chain, base first")
+}
+
+fn number() -> Arg {
+    Arg::new("sector")
+        .value_name("N")
+        .help("The number of a virtual sector, from 0")
+        .value_parser(value_parser!(u64))
+        .required(true)
+}
+
+fn output(about: &'static str, required: bool) -> Arg {
+    Arg::new("output")
+        .short('o')
+        .long("output")
+        .value_name("OUT")
+        .help(about)
+        .value_parser(value_parser!(PathBuf))
+        .required(required)
+}
+
+fn force() -> Arg {
+    Arg::new("force")
+        .long("force")
+        .help("Replace OUT if it exists")
+        .requires("output")
+        .action(ArgAction::SetTrue)
+}
+
+fn subcommand(name: &'static str) -> Command {
+    Command::new(name).after_help(STATUS)
+}
+
+pub fn command() -> Command {
+    let command = Command::new("anhkhovet")
+        .about("Reads VMDK and COWD sparse disk images by a library that is proved")
+        .version(env!("CARGO_PKG_VERSION"))
+        .after_help(STATUS)
+        .subcommand_required(true)
+        .arg_required_else_help(true)
+        .arg(
+            Arg::new("json")
+                .long("json")
+                .global(true)
+                .help("Answer with one JSON object")
+                .action(ArgAction::SetTrue),
+        );
+    writing(describing(digesting(reading(command))))
+}
+
+fn reading(command: Command) -> Command {
+    command
+        .subcommand(
+            subcommand("check")
+                .about("Says whether images meet every layout rule")
+                .arg(files("The images, each judged by itself")),
+        )
+        .subcommand(
+            subcommand("sector")
+                .about("Says where a sector comes from: layer, kind, file sector, byte offset")
+                .arg(layers())
+                .arg(number()),
+        )
+        .subcommand(
+            subcommand("read")
+                .about("Gives the 512 bytes of a sector, or the closed payload of its packed grain")
+                .arg(layers())
+                .arg(number())
+                .arg(output(
+                    "The file to write, instead of standard output; it appears when it is whole",
+                    false,
+                ))
+                .arg(force()),
+        )
+        .subcommand(
+            subcommand("map")
+                .about("Lists the runs of sectors that have one source")
+                .arg(layers()),
+        )
+}
+
+fn digesting(command: Command) -> Command {
+    let list = Arg::new("list")
+        .long("list")
+        .value_name("LIST")
+        .help("Compare with the lines of LIST (sector, digest), - for standard input, and tell all that do not hold")
+        .value_parser(value_parser!(PathBuf));
+    let flag = |name: &'static str, about: &'static str| {
+        Arg::new(name)
+            .long(name)
+            .help(about)
+            .action(ArgAction::SetTrue)
+    };
+    command.subcommand(
+        subcommand("digest")
+            .about("Gives the SHA-256 digest of each sector, or compares with a list of them")
+            .arg(layers())
+            .arg(flag(
+                "grain",
+                "One digest for each grain, told by its first sector",
+            ))
+            .arg(list)
+            .arg(flag("complete", "What LIST leaves out is a failure").requires("list")),
+    )
+}
+
+fn writing(command: Command) -> Command {
+    command
+        .subcommand(
+            subcommand("collapse")
+                .about("Writes one image that reads as the layers do")
+                .arg(files("The layers, lowest first, two at least").num_args(2..))
+                .arg(output(IMAGE_OUT, true))
+                .arg(force()),
+        )
+        .subcommand(
+            subcommand("normal")
+                .about("Writes an image's normal form")
+                .arg(files("The image").num_args(1))
+                .arg(output(IMAGE_OUT, true))
+                .arg(force()),
+        )
+}
+
+fn describing(command: Command) -> Command {
+    command.subcommand(
+        subcommand("describe")
+            .about("Says what a descriptor says, a file of its own or one inside an image")
+            .arg(
+                files("The descriptor, - for standard input, or an image that holds one")
+                    .num_args(1),
+            )
+            .arg(
+                number()
+                    .required(false)
+                    .long("sector")
+                    .help("Also say which extent holds sector N"),
+            ),
+    )
+}

@@ -1,0 +1,233 @@
+//! Images of every kind and with every kind of damage, by numbers as if by chance.
+
+/// Numbers as if by chance, the same in every run.
+struct Chance(u64);
+
+impl Chance {
+    fn below(&mut self, end: u64) -> u64 {
+        self.0 ^= self.0 << 13;
+        self.0 ^= self.0 >> 7;
+        self.0 ^= self.0 << 17;
+        self.0 % end
+    }
+
+    fn once_in(&mut self, times: u64) -> bool {
+        self.below(times) == 0
+    }
+}
+
+/// An image under construction: areas one after the other, all noise until they are written.
+struct Made {
+    bytes: Vec<u8>,
+    chance: Chance,
+    /// Sectors so far.
+    used: u64,
+}
+
+/// What an image is to be.
+#[derive(Clone, Copy)]
+struct Form {
+    cowd: bool,
+    packed: bool,
+    footer: bool,
+    redundant: bool,
+    capacity: u64,
+    grain: u64,
+}
+
+impl Form {
+    fn by_chance(chance: &mut Chance) -> Form {
+        let cowd = chance.once_in(4);
+        let packed = !cowd && chance.once_in(2);
+        Form {
+            cowd,
+            packed,
+            footer: packed && chance.once_in(2),
+            redundant: !cowd && chance.once_in(2),
+            capacity: 9000,
+            grain: if cowd { 2 } else { 8 },
+        }
+    }
+
+    fn entries(&self) -> u64 {
+        if self.cowd {
+            4096
+        } else {
+            512
+        }
+    }
+
+    fn directory_entries(&self) -> u64 {
+        let held = self.entries() * self.grain;
+        (self.capacity + held - 1) / held
+    }
+}
+
+impl Made {
+    fn new(seed: u64) -> Made {
+        Made {
+            bytes: Vec::new(),
+            chance: Chance(seed.wrapping_mul(0x9e37_79b9_7f4a_7c15) | 1),
+            used: 0,
+        }
+    }
+
+    fn area(&mut self, sectors: u64) -> u64 {
+        let first = self.used;
+        self.used += sectors;
+        for _ in 0..64 * sectors {
+            let noise = self.chance.below(u64::MAX);
+            self.bytes.extend(noise.to_le_bytes());
+        }
+        first
+    }
+
+    fn put(&mut self, at: u64, bytes: &[u8]) {
+        let at = at as usize;
+        if let Some(part) = self.bytes.get_mut(at..at + bytes.len()) {
+            part.copy_from_slice(bytes);
+        }
+    }
+
+    fn word(&mut self, at: u64, word: u64) {
+        self.put(at, &(word as u32).to_le_bytes());
+    }
+
+    /// One grain's entry.
+    fn grain(&mut self, form: &Form, number: u64) -> u64 {
+        if !self.chance.once_in(if form.cowd { 100 } else { 30 }) {
+            return self.chance.below(if form.cowd { 1 } else { 2 });
+        }
+        if !form.packed {
+            return self.area(form.grain);
+        }
+        let size = 1 + self.chance.below(1500);
+        let first = self.area((12 + size + 511) / 512);
+        self.put(512 * first, &(number * form.grain).to_le_bytes());
+        self.word(512 * first + 8, size);
+        first
+    }
+
+    /// A directory, its tables and the same once more, if there are to be two; the sectors of both.
+    fn tables(&mut self, form: &Form) -> (u64, u64) {
+        let n = form.directory_entries();
+        let sectors = form.entries() * 4 / 512;
+        let directories = [self.area(1), if form.redundant { self.area(1) } else { 0 }];
+        for entry in 0..n {
+            let none = self.chance.once_in(8);
+            let word = self.chance.below(if form.cowd { 1 } else { 2 });
+            let both: Vec<u64> = directories
+                .iter()
+                .take(1 + usize::from(form.redundant))
+                .map(|_| if none { word } else { self.area(sectors) })
+                .collect();
+            for (directory, table) in directories.iter().zip(&both) {
+                self.word(512 * directory + 4 * entry, *table);
+            }
+            if none {
+                continue;
+            }
+            for index in 0..form.entries() {
+                let word = self.grain(form, entry * form.entries() + index);
+                for table in &both {
+                    self.word(512 * table + 4 * index, word);
+                }
+            }
+        }
+        (directories[0], directories[1])
+    }
+
+    fn kdmv(&mut self, form: &Form) {
+        self.area(1);
+        let described = self.chance.below(3);
+        let descriptor = if described > 0 {
+            self.area(described)
+        } else {
+            0
+        };
+        let (directory, redundant) = self.tables(form);
+        let flags = 5 + if form.packed { 0x30000 } else { 0 };
+        let mut head = b"KDMV".to_vec();
+        head.extend(3u32.to_le_bytes());
+        head.extend((flags as u32).to_le_bytes());
+        for number in [form.capacity, form.grain, descriptor, described] {
+            head.extend(number.to_le_bytes());
+        }
+        head.extend(512u32.to_le_bytes());
+        let at_end = if form.footer { u64::MAX } else { directory };
+        for number in [redundant, at_end, 0] {
+            head.extend(number.to_le_bytes());
+        }
+        head.extend(b"\0\n \r\n");
+        head.extend(u16::from(form.packed).to_le_bytes());
+        head.resize(512, 0);
+        self.put(0, &head);
+        if form.footer {
+            let footer = 512 * self.area(2);
+            self.put(footer, &head);
+            self.put(footer + 56, &directory.to_le_bytes());
+            self.put(footer + 512, &[0; 512]);
+        }
+    }
+
+    fn cowd(&mut self, form: &Form) {
+        self.area(4);
+        let (directory, _) = self.tables(form);
+        let mut head = b"COWD".to_vec();
+        let n = form.directory_entries() + self.chance.below(3);
+        for number in [1, 3, form.capacity, form.grain, directory, n] {
+            head.extend((number as u32).to_le_bytes());
+        }
+        self.put(0, &head);
+    }
+
+    /// Damage of some kind, or none.
+    fn damage(&mut self, form: &Form) {
+        let length = 512 * self.used;
+        match self.chance.below(8) {
+            // An entry somewhere, or a number of the header.
+            0 | 1 => {
+                let at = 4 * self.chance.below(length / 4);
+                let word = self.chance.below(2 * self.used);
+                self.word(at, word);
+            }
+            2 => {
+                let at = 4 * self.chance.below(20);
+                let word = self.chance.below(1 << 33);
+                self.word(at, word);
+            }
+            // A descriptor or a redundant directory that has no place.
+            3 if !form.cowd => {
+                let at = [28, 36, 48][self.chance.below(3) as usize];
+                let number = self.chance.below(2) * (self.used + self.chance.below(1 << 40));
+                self.put(at, &number.to_le_bytes());
+            }
+            4 | 5 => {
+                let cut = 1 + self.chance.below(length.min(60 * 512));
+                self.bytes.truncate((length - cut) as usize);
+            }
+            // Maybe a marker's size.
+            6 if form.packed => {
+                let at = 512 * self.chance.below(self.used) + 8;
+                let size = self.chance.below(2) * 512 * self.chance.below(self.used);
+                self.word(at, size);
+            }
+            _ => {}
+        }
+        if self.chance.once_in(4) {
+            self.bytes.extend([0xff; 77]);
+        }
+    }
+}
+
+pub fn image(seed: u64) -> Vec<u8> {
+    let mut made = Made::new(seed);
+    let form = Form::by_chance(&mut made.chance);
+    if form.cowd {
+        made.cowd(&form);
+    } else {
+        made.kdmv(&form);
+    }
+    made.damage(&form);
+    made.bytes
+}

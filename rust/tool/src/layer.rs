@@ -1,0 +1,169 @@
+//! One opened file: what it was at its opening, and bytes read from it.
+
+use crate::failure::Failure;
+use std::fs::{self, File, FileType, Metadata, OpenOptions};
+use std::io;
+use std::os::unix::fs::{FileExt, FileTypeExt, MetadataExt, OpenOptionsExt};
+use std::os::unix::io::AsRawFd;
+use std::path::{Path, PathBuf};
+use std::thread::sleep;
+use std::time::Duration;
+
+pub struct Layer {
+    pub path: PathBuf,
+    pub file: File,
+    facts: Facts,
+}
+
+/// What shows that a file was written. Its owner can put back the time of modification, but not that of the last change.
+#[derive(Clone, Copy, PartialEq, Eq)]
+struct Facts {
+    length: u64,
+    modified: (i64, i64),
+    changed: (i64, i64),
+}
+
+const TICK: Duration = Duration::from_millis(1);
+/// Longer than the clock by which files are stamped takes to go on.
+const STILL: u32 = 20;
+const PATIENCE: u32 = 100;
+
+/// Parts of at most this many bytes are not looked at for holes.
+const SHORT: usize = 1 << 16;
+
+impl Facts {
+    fn of(facts: &Metadata) -> Facts {
+        Facts {
+            length: facts.len(),
+            modified: (facts.mtime(), facts.mtime_nsec()),
+            changed: (facts.ctime(), facts.ctime_nsec()),
+        }
+    }
+}
+
+impl Layer {
+    /// Anything but a plain file is told at once: it is neither opened nor waited for.
+    pub fn open(path: &Path) -> Result<Layer, Failure> {
+        let tried = "cannot be opened";
+        let facts = fs::metadata(path).map_err(Failure::system(path, tried))?;
+        plain(path, facts.file_type())?;
+        let file = OpenOptions::new()
+            .read(true)
+            .custom_flags(libc::O_NONBLOCK)
+            .open(path)
+            .map_err(Failure::system(path, tried))?;
+        Layer::of(path, file)
+    }
+
+    pub fn of(path: &Path, file: File) -> Result<Layer, Failure> {
+        let facts = look(path, &file)?;
+        plain(path, facts.file_type())?;
+        let mut layer = Layer {
+            path: path.to_path_buf(),
+            file,
+            facts: Facts::of(&facts),
+        };
+        layer.settle()?;
+        Ok(layer)
+    }
+
+    /// Waits until the clock has gone on since the last change: only then does the next one get another time.
+    fn settle(&mut self) -> Result<(), Failure> {
+        let mut still = 0;
+        for _ in 0..PATIENCE {
+            // A time that is ahead of the clock, which was set back then, is no other one for that.
+            if self.facts.changed < clock() || still >= STILL {
+                return Ok(());
+            }
+            sleep(TICK);
+            let facts = Facts::of(&look(&self.path, &self.file)?);
+            still = if facts == self.facts { still + 1 } else { 0 };
+            self.facts = facts;
+        }
+        Err(Failure::changed(&self.path))
+    }
+
+    pub fn length(&self) -> u64 {
+        self.facts.length
+    }
+
+    /// Whether length and times are what they were at the opening.
+    pub fn same(&self) -> Result<(), Failure> {
+        if Facts::of(&look(&self.path, &self.file)?) == self.facts {
+            Ok(())
+        } else {
+            Err(Failure::changed(&self.path))
+        }
+    }
+
+    /// Fills `to` with the file's bytes from `at` on.
+    pub fn read(&self, at: u64, to: &mut [u8]) -> Result<(), Failure> {
+        self.file
+            .read_exact_at(to, at)
+            .map_err(|error| match error.kind() {
+                // It was longer before.
+                io::ErrorKind::UnexpectedEof => Failure::changed(&self.path),
+                _ => Failure::System(self.path.clone(), "cannot be read", error),
+            })
+    }
+
+    /// The same over bytes that are zero: holes are left out, so that they cost nothing.
+    pub fn copy(&self, at: u64, to: &mut [u8]) -> Result<(), Failure> {
+        if to.len() <= SHORT {
+            return self.read(at, to);
+        }
+        let end = at + to.len() as u64;
+        let mut from = at;
+        while from < end {
+            let data = match self.seek(from, libc::SEEK_DATA) {
+                Ok(data) => data.min(end),
+                Err(error) if error.raw_os_error() == Some(libc::ENXIO) => end,
+                // A file system that knows no holes.
+                Err(_) => from,
+            };
+            let hole = match self.seek(data, libc::SEEK_HOLE) {
+                Ok(hole) if hole > data => hole.min(end),
+                _ => end,
+            };
+            self.read(data, &mut to[(data - at) as usize..(hole - at) as usize])?;
+            from = hole;
+        }
+        Ok(())
+    }
+
+    fn seek(&self, at: u64, to: libc::c_int) -> io::Result<u64> {
+        // SAFETY: a plain call on an open file.
+        let found = unsafe { libc::lseek(self.file.as_raw_fd(), at as libc::off_t, to) };
+        u64::try_from(found).map_err(|_| io::Error::last_os_error())
+    }
+}
+
+fn look(path: &Path, file: &File) -> Result<Metadata, Failure> {
+    file.metadata()
+        .map_err(Failure::system(path, "cannot be looked at"))
+}
+
+fn plain(path: &Path, kind: FileType) -> Result<(), Failure> {
+    let word = match kind {
+        kind if kind.is_file() => return Ok(()),
+        kind if kind.is_dir() => "folder",
+        kind if kind.is_fifo() => "named pipe",
+        kind if kind.is_socket() => "socket",
+        _ => "device",
+    };
+    Err(Failure::unfit(
+        path,
+        format!("is a {word} and not a plain file, and only those can be read"),
+    ))
+}
+
+/// The clock by which the kernel stamps files, in seconds and nanoseconds.
+fn clock() -> (i64, i64) {
+    let mut now = libc::timespec {
+        tv_sec: 0,
+        tv_nsec: 0,
+    };
+    // SAFETY: one record to be written. Without that clock it stays 0, and the wait is the longest one.
+    unsafe { libc::clock_gettime(libc::CLOCK_REALTIME_COARSE, &mut now) };
+    (now.tv_sec, now.tv_nsec)
+}

@@ -1,0 +1,52 @@
+//! Memory of the tool's own, as long as the files. The library is lent nothing else: it is proved over bytes that stand still, and
+//! those of a file may be written by anyone while it reads.
+
+use std::io;
+use std::{ptr, slice};
+
+/// Zero bytes at first. What is never written takes no memory, so that terabytes cost nothing.
+pub struct Own {
+    start: *mut u8,
+    length: usize,
+}
+
+impl Own {
+    pub fn new(length: usize) -> io::Result<Own> {
+        if length == 0 {
+            let start = ptr::NonNull::dangling().as_ptr();
+            return Ok(Own { start, length });
+        }
+        let protection = libc::PROT_READ | libc::PROT_WRITE;
+        let flags = libc::MAP_PRIVATE | libc::MAP_ANONYMOUS | libc::MAP_NORESERVE;
+        // SAFETY: the kernel chooses a free place.
+        let start = unsafe { libc::mmap(ptr::null_mut(), length, protection, flags, -1, 0) };
+        if start == libc::MAP_FAILED {
+            return Err(io::Error::last_os_error());
+        }
+        // SAFETY: advice about a range that is ours. A large page for each table that stands alone would take 2 MiB.
+        unsafe { libc::madvise(start, length, libc::MADV_NOHUGEPAGE) };
+        Ok(Own {
+            start: start as *mut u8,
+            length,
+        })
+    }
+
+    pub fn bytes(&self) -> &[u8] {
+        // SAFETY: anonymous memory of that length, or none. It is this value's alone, so what borrows it is all there is.
+        unsafe { slice::from_raw_parts(self.start, self.length) }
+    }
+
+    pub fn bytes_mut(&mut self) -> &mut [u8] {
+        // SAFETY: as above.
+        unsafe { slice::from_raw_parts_mut(self.start, self.length) }
+    }
+}
+
+impl Drop for Own {
+    fn drop(&mut self) {
+        if self.length > 0 {
+            // SAFETY: the range is ours, and every slice of it borrows from this value.
+            unsafe { libc::munmap(self.start as *mut libc::c_void, self.length) };
+        }
+    }
+}

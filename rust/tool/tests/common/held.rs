@@ -1,0 +1,43 @@
+//! Runs that are held while their output is there and not whole yet.
+#![allow(dead_code)]
+
+use crate::common::{names, tool, Folder};
+use std::process::{Child, Command, Stdio};
+use std::thread::sleep;
+use std::time::{Duration, Instant};
+
+/// So many sectors that writing them takes far longer than a test needs to see that it began.
+pub const BIG: u64 = 1 << 21;
+
+/// Starts a command that writes, and holds it once its unfinished output is there.
+pub fn held(folder: &Folder, words: &[&str]) -> Child {
+    let mut command = tool(folder.path());
+    command.args(words);
+    hold(folder, &mut command)
+}
+
+pub fn hold(folder: &Folder, command: &mut Command) -> Child {
+    let child = command
+        .stdout(Stdio::piped())
+        .stderr(Stdio::piped())
+        .spawn()
+        .expect("the tool starts");
+    let begun = Instant::now();
+    while !has_part(folder) {
+        assert!(begun.elapsed() < Duration::from_secs(60), "no output begun");
+        sleep(Duration::from_micros(200));
+    }
+    signal(&child, libc::SIGSTOP);
+    child
+}
+
+fn has_part(folder: &Folder) -> bool {
+    names(folder.path())
+        .iter()
+        .any(|name| name.ends_with(".part"))
+}
+
+pub fn signal(child: &Child, signal: libc::c_int) {
+    // SAFETY: the child is ours and was not waited for yet.
+    unsafe { libc::kill(child.id() as libc::pid_t, signal) };
+}

@@ -1,0 +1,160 @@
+#!/usr/bin/env python3
+"""Writes tests/cases/frames, which the program `cases` is run on, and what it must print. frames.py [FOLDER] writes it below
+another folder than tests.
+
+Each case has a label, an image, built byte by byte, and the areas that document 01 gives it beside its grains, or the refusal,
+written down by hand: both sides of each edge. The list is lent as long as the areas need, or as `room` says, and all of it is
+printed. Nothing here reads an image.
+"""
+from asked import FRAME, case, label, line, main, write_cases
+from images import ALL_ONES, FOOTER, PACKED, SECTOR, STREAM, cowd, entries, image, kdmv, marker, small, stream
+
+# The groups of areas, in the list's order.
+HEADER, DESCRIPTOR, DIRECTORY, REDUNDANT, TABLE, COPY, FOOTER_SECTOR, LAST_SECTOR = range(1, 9)
+# What each word of the list holds before the call, and the most words that the program lends.
+HELD, MOST = 170, 96
+
+CASES, LINES, LABELS = [], [], []
+
+
+def asked(name, data, room, answer, words=()):
+    assert len(words) <= room <= MOST, name
+    label(LABELS, name)
+    CASES.append(case(FRAME, data, room=room))
+    LINES.append(line("frame", *answer, *words, *[HELD] * (room - len(words))))
+
+
+def framed(name, data, *areas, room=None):
+    """An image and its areas: group, first sector, sectors."""
+    words = [word for area in areas for word in area]
+    asked(name, data, len(words) if room is None else room, (0, 0, len(areas)), words)
+
+
+def refused(name, data, number, room=9):
+    asked(name, data, room, (number, 0, 0))
+
+
+def empty(head, sectors=6):
+    """The header and nothing else."""
+    return image(sectors, (0, head))
+
+
+# ---- which areas there are, and their order
+framed("table", small(8, 0), (HEADER, 0, 1), (DIRECTORY, 1, 1), (TABLE, 2, 4))
+framed("sample-of-000", image(31, (0, kdmv(8192, 128, 26)), (26, entries(27))),
+       (HEADER, 0, 1), (DIRECTORY, 26, 1), (TABLE, 27, 4))
+framed("descriptor", empty(kdmv(descriptor=(2, 3))), (HEADER, 0, 1), (DESCRIPTOR, 2, 3), (DIRECTORY, 1, 1))
+framed("redundant", image(11, (0, kdmv(redundant=6)), (1, entries(2)), (6, entries(7))),
+       (HEADER, 0, 1), (DIRECTORY, 1, 1), (REDUNDANT, 6, 1), (TABLE, 2, 4), (COPY, 7, 4))
+# every group; the later an area is in the list, the earlier it stands in the file, by entries too
+ORDER = dict(capacity=4 * 4096, flags=0x30001, compression=1, descriptor=(20, 2), redundant=18)
+framed("all-groups",
+       image(24, (0, kdmv(directory=ALL_ONES, **ORDER)), (19, entries(14, 0, 10, 1, 99)), (18, entries(6, 1, 2, 0, 99)),
+             (22, kdmv(directory=19, **ORDER))),
+       (HEADER, 0, 1), (DESCRIPTOR, 20, 2), (DIRECTORY, 19, 1), (REDUNDANT, 18, 1), (TABLE, 14, 4), (TABLE, 10, 4),
+       (COPY, 6, 4), (COPY, 2, 4), (FOOTER_SECTOR, 22, 1), (LAST_SECTOR, 23, 1))
+# entry 0 and 1 name no table in KDMV, 1 is a sector in COWD
+framed("entry-0", empty(kdmv()), (HEADER, 0, 1), (DIRECTORY, 1, 1))
+framed("entry-1", image(6, (0, kdmv()), (1, entries(1))), (HEADER, 0, 1), (DIRECTORY, 1, 1))
+framed("entry-2", image(6, (0, kdmv()), (1, entries(2))), (HEADER, 0, 1), (DIRECTORY, 1, 1), (TABLE, 2, 4))
+framed("redundant-entry-1", image(6, (0, kdmv(redundant=2)), (2, entries(1))),
+       (HEADER, 0, 1), (DIRECTORY, 1, 1), (REDUNDANT, 2, 1))
+framed("cowd-entry-0", empty(cowd(), 36), (HEADER, 0, 4), (DIRECTORY, 4, 1))
+framed("cowd-entry-1", image(36, (0, cowd()), (4, entries(1))), (HEADER, 0, 4), (DIRECTORY, 4, 1), (TABLE, 1, 32))
+# n entries count: 512 grains of 8 sectors have one, one sector more makes two; COWD has 4,096 grains to an entry
+framed("one-entry", image(9, (0, kdmv(4096)), (1, entries(2, 5))), (HEADER, 0, 1), (DIRECTORY, 1, 1), (TABLE, 2, 4))
+framed("two-entries", image(9, (0, kdmv(4097)), (1, entries(2, 5))),
+       (HEADER, 0, 1), (DIRECTORY, 1, 1), (TABLE, 2, 4), (TABLE, 5, 4))
+framed("cowd-one-entry", image(38, (0, cowd(4096, 1, count=2)), (4, entries(5, 6))),
+       (HEADER, 0, 4), (DIRECTORY, 4, 1), (TABLE, 5, 32))
+framed("cowd-two-entries", image(38, (0, cowd(4097, 1, count=2)), (4, entries(5, 6))),
+       (HEADER, 0, 4), (DIRECTORY, 4, 1), (TABLE, 5, 32), (TABLE, 6, 32))
+# 128 entries fill a sector; in COWD the stored count gives the sectors
+framed("128-entries", empty(kdmv(128 * 4096)), (HEADER, 0, 1), (DIRECTORY, 1, 1))
+framed("129-entries", empty(kdmv(128 * 4096 + 1)), (HEADER, 0, 1), (DIRECTORY, 1, 2))
+framed("129-entries-redundant", empty(kdmv(128 * 4096 + 1, redundant=3)),
+       (HEADER, 0, 1), (DIRECTORY, 1, 2), (REDUNDANT, 3, 2))
+framed("129th-entry", image(9, (0, kdmv(128 * 4096 + 1)), (2, entries(4, 99))),
+       (HEADER, 0, 1), (DIRECTORY, 1, 2), (TABLE, 4, 4))
+framed("cowd-count-128", empty(cowd(count=128)), (HEADER, 0, 4), (DIRECTORY, 4, 1))
+framed("cowd-count-129", empty(cowd(count=129)), (HEADER, 0, 4), (DIRECTORY, 4, 2))
+# the footer's directory counts, and without the all-ones number there is no footer
+framed("stream", stream(), (HEADER, 0, 1), (DIRECTORY, 1, 1), (TABLE, 2, 4), (FOOTER_SECTOR, 7, 1), (LAST_SECTOR, 8, 1))
+framed("stream-4-sectors", image(4, (0, STREAM), (2, FOOTER)),
+       (HEADER, 0, 1), (DIRECTORY, 1, 1), (FOOTER_SECTOR, 2, 1), (LAST_SECTOR, 3, 1))
+framed("markers-without-footer", stream(head=FOOTER), (HEADER, 0, 1), (DIRECTORY, 1, 1), (TABLE, 2, 4))
+
+# ---- what is not judged: grains (9, 10), the copies (11), areas that meet (12), bytes past F
+framed("grain-past", small(2**32 - 1, 0), (HEADER, 0, 1), (DIRECTORY, 1, 1), (TABLE, 2, 4))
+framed("packed-other-grain", image(7, (0, PACKED), (1, entries(2)), (2, entries(0, 6)), (6, marker(0, 5))),
+       (HEADER, 0, 1), (DIRECTORY, 1, 1), (TABLE, 2, 4))
+framed("copies-differ", image(12, (0, kdmv(3 * 4096, redundant=6)), (1, entries(2, 0, 1)), (6, entries(0, 7, 8))),
+       (HEADER, 0, 1), (DIRECTORY, 1, 1), (REDUNDANT, 6, 1), (TABLE, 2, 4), (COPY, 7, 4), (COPY, 8, 4))
+framed("all-at-one-place", image(6, (0, kdmv(4097, directory=2, redundant=2, descriptor=(2, 1))), (2, entries(2, 2))),
+       (HEADER, 0, 1), (DESCRIPTOR, 2, 1), (DIRECTORY, 2, 1), (REDUNDANT, 2, 1), *[(TABLE, 2, 4)] * 2, *[(COPY, 2, 4)] * 2)
+framed("past-last-sector", small(8, 0) + b"\xff" * 511, (HEADER, 0, 1), (DIRECTORY, 1, 1), (TABLE, 2, 4))
+
+# ---- 8: each area at the file's end and a sector past it; sector 0; sums that would wrap
+framed("descriptor-at-end", empty(kdmv(descriptor=(3, 3))), (HEADER, 0, 1), (DESCRIPTOR, 3, 3), (DIRECTORY, 1, 1))
+for name, numbers in (("past", (3, 4)), ("past-cut", (6, 1)), ("without-sectors", (3, 0)), ("without-sector", (0, 3)),
+                      ("wraps", (ALL_ONES, 2)), ("wraps-by-sectors", (3, ALL_ONES))):
+    refused(f"descriptor-{name}", image(6, (0, kdmv(descriptor=numbers)), extra=511), 8)
+framed("directory-at-end", empty(kdmv(directory=5)), (HEADER, 0, 1), (DIRECTORY, 5, 1))
+framed("directory-of-two-at-end", empty(kdmv(128 * 4096 + 1, directory=4)), (HEADER, 0, 1), (DIRECTORY, 4, 2))
+refused("directory-of-two-past", empty(kdmv(128 * 4096 + 1, directory=5)), 8)
+for number in (0, 6, ALL_ONES - 1):
+    refused(f"directory-{number}", image(6, (0, kdmv(directory=number)), extra=511), 8)
+framed("cowd-count-at-end", empty(cowd(count=2 * 128)), (HEADER, 0, 4), (DIRECTORY, 4, 2))
+for count in (2 * 128 + 1, 2**32 - 1):
+    refused(f"cowd-count-{count}", empty(cowd(count=count)), 8)
+refused("cowd-directory-0", empty(cowd(directory=0)), 8)
+framed("redundant-at-end", empty(kdmv(redundant=5)), (HEADER, 0, 1), (DIRECTORY, 1, 1), (REDUNDANT, 5, 1))
+for number in (6, ALL_ONES - 1, ALL_ONES):
+    refused(f"redundant-{number}", image(6, (0, kdmv(redundant=number)), extra=511), 8)
+refused("redundant-of-two-past", empty(kdmv(128 * 4096 + 1, redundant=5)), 8)
+for name, at, group in (("table", 1, TABLE), ("copy", 2, COPY)):
+    framed(f"{name}-at-end", image(7, (0, kdmv(redundant=2)), (at, entries(3))),
+           (HEADER, 0, 1), (DIRECTORY, 1, 1), (REDUNDANT, 2, 1), (group, 3, 4))
+    for number in (4, 7, 2**32 - 1):
+        refused(f"{name}-{number}", image(7, (0, kdmv(redundant=2)), (at, entries(number)), extra=511), 8)
+framed("cowd-table-at-end", image(38, (0, cowd()), (4, entries(6))), (HEADER, 0, 4), (DIRECTORY, 4, 1), (TABLE, 6, 32))
+refused("cowd-table-past", image(38, (0, cowd()), (4, entries(7))), 8)
+refused("last-table-past", image(9, (0, kdmv(4097)), (1, entries(2, 6))), 8)
+refused("stream-directory-0", stream(footer=FOOTER[:56] + bytes(8) + FOOTER[64:]), 8)
+
+# ---- 1 to 7, one or two of each: the lookup's cases have their edges
+refused("no-bytes", b"", 1)
+refused("kdmv-511", kdmv()[:SECTOR - 1], 1)
+refused("cowd-2047", cowd()[:4 * SECTOR - 1], 1)
+refused("four-other-bytes", b"abcd", 2)
+refused("version-4", empty(kdmv(version=4)), 3)
+refused("cowd-version-2", empty(cowd(version=2)), 3)
+refused("newline", empty(kdmv(newline=b"\n \n\n")), 4)
+refused("redundant-missing", empty(kdmv(flags=3)), 5)
+refused("end-without-markers", empty(kdmv(directory=ALL_ONES)), 5)
+refused("grain-size-4", empty(kdmv(size=4)), 6)
+refused("cowd-count-0", empty(cowd(count=0)), 6)
+refused("stream-3-sectors", image(3, (0, STREAM), (1, FOOTER)), 7)
+refused("stream-again", stream(footer=STREAM), 7)
+refused("stream-last-byte", stream(last=bytes(SECTOR - 1) + b"\1"), 7)
+refused("stream-odd-length", stream(extra=1), 7)
+refused("7-before-8", stream(footer=FOOTER[:56] + bytes(8) + FOOTER[64:], extra=1), 7)
+
+# ---- 21: three words an area, after 1 to 8; what is not written keeps its content
+framed("room-to-spare", small(8, 0), (HEADER, 0, 1), (DIRECTORY, 1, 1), (TABLE, 2, 4), room=14)
+for room in (0, 1, 6, 8):
+    refused(f"room-{room}", small(8, 0), 21, room)
+framed("room-96", image(6, (0, kdmv(30 * 4096)), (1, entries(*[2] * 31))),
+       (HEADER, 0, 1), (DIRECTORY, 1, 1), *[(TABLE, 2, 4)] * 30, room=96)
+refused("room-95", image(6, (0, kdmv(30 * 4096)), (1, entries(*[2] * 31))), 21, 95)
+refused("room-96-of-99", image(6, (0, kdmv(31 * 4096)), (1, entries(*[2] * 31))), 21, 96)
+refused("8-before-21", small(8, 0, head=kdmv(directory=0)), 8, 0)
+refused("1-before-21", b"", 1, 0)
+
+
+def write(folder):
+    write_cases(folder, "frames", CASES, LINES)
+
+
+if __name__ == "__main__":
+    main(write)
