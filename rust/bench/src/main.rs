@@ -32,7 +32,7 @@ const CALLS: [&str; 5] = ["check", "lookup", "chain", "collapse", "descriptor"];
 type Outcome = Result<(), Box<dyn Error>>;
 
 /// What all measures share.
-struct Setup {
+pub struct Setup {
     /// Small inputs and few rounds: to see that all works.
     quick: bool,
     rounds: u32,
