@@ -1,6 +1,7 @@
 // Answers in document 01's numbers, for whoever prints them or hands them on.
 ghost use mathlib.Core.Path.{_≡_};
-ghost use Rattle.format.specs.Answers.{number, place, headerNumbers, verdict, served, unserved, located, chained, written, framed};
+ghost use Rattle.format.specs.Answers.{number, place, headerNumbers, verdict, served, unserved, located, chained};
+ghost use Rattle.format.specs.Answers.{written, framed};
 use format::ChainAnswer;
 use format::CheckAnswer;
 use format::CollapseAnswer;

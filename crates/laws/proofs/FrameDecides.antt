@@ -1,5 +1,5 @@
--- The frame decides: two images of one length that agree in the sectors of the frame of the one and, if that is packed, in the
--- markers of its grains have the same check, lookups, frame, and length of what is written.
+-- The frame decides: two images of one length that agree in the sectors of the frame of the one, but for the descriptor's, and,
+-- if that is packed, in the markers of its grains have the same check, lookups, frame, and length of what is written.
 use Prim.Native.Nat.{ℕ, _+_, _*_, _≤_}
 use mathlib.Core.Path.{_≡_, refl, ap, _∙_}
 use mathlib.Core.List.{List, _++_}
@@ -14,13 +14,13 @@ use Rattle.format.specs.Geometry.{fileSectors}
 use Rattle.format.specs.Kdmv.{kdmvMagic, kdmvFields, atEnd}
 use Rattle.format.specs.Header.{kdmvHeader, cowdHeader, headerOf, directoryEntriesOf, judge}
 use Rattle.format.specs.Entries.{entryAt, meaningAt}
-use Rattle.format.specs.Areas.{headerArea, descriptorArea, directoryArea, redundantArea, tableAreas, primaryTables, named}
+use Rattle.format.specs.Areas.{headerArea, directoryArea, redundantArea, tableAreas, primaryTables, named}
 use Rattle.format.specs.Areas.{redundantTables, footerArea, lastArea}
 use Rattle.format.specs.Check.{check}
 use Rattle.format.specs.Source.{sectorLookup}
 use Rattle.format.specs.Chain.{chainLookup}
 use Rattle.format.specs.Collapse.{normal, collapse}
-use Rattle.format.specs.Frame.{frameAreas, frameFrom, frame}
+use Rattle.format.specs.Frame.{frameFrom, frame}
 use Rattle.format.specs.Judged.{Sound}
 use Rattle.format.specs.declared.Header.{Header}
 use Rattle.format.specs.declared.HeaderAnswer.{HeaderAnswer}
@@ -29,7 +29,7 @@ use Rattle.format.specs.declared.FrameAnswer.the-variants.{Listed}
 use Rattle.format.proofs.HeaderJudged.{judged-rules, judged-header}
 use Rattle.format.proofs.HeaderSound.{sound-of}
 use Rattle.format.proofs.Places.{redundant-tables}
-use Rattle.laws.specs.SameFrame.{SameBytes, SameAreas, SameFrame, SameFrames}
+use Rattle.laws.specs.SameFrame.{SameBytes, SameAreas, decidingAreas, SameFrame, SameFrames}
 use Rattle.laws.specs.Unused.{SameTables, SameInUse, SameUsed}
 use Rattle.laws.proofs.SameBytes.{within, number-same, areas-both, areas-row, area-there, area-named}
 use Rattle.laws.proofs.SameHeader.{SameHead, header-same, judge-same}
@@ -58,23 +58,22 @@ pub record SameGroups (s t : List ℕ) (h : Header) : Type 0 where
   pub footer : SameAreas s t (footerArea s h)
   pub last : SameAreas s t (lastArea s h)
 
-groups : (s t : List ℕ) (h : Header) → SameAreas s t (frameAreas s h) → SameGroups s t h
-unfolding frameAreas
+groups : (s t : List ℕ) (h : Header) → SameAreas s t (decidingAreas s h) → SameGroups s t h
+unfolding decidingAreas
 groups s t h all =
     let ends = footerArea s h ++ lastArea s h in
     let copies = redundantTables s h ++ ends in
     let tables = primaryTables s h ++ copies in
     let directories = redundantArea h ++ tables in
-    let a = areas-both s t (headerArea h) (descriptorArea h ++ (directoryArea h ++ directories)) all in
-    let b = areas-both s t (descriptorArea h) (directoryArea h ++ directories) (a .1) in
-    let c = areas-both s t (directoryArea h) directories (b .1) in
-    let d = areas-both s t (redundantArea h) tables (c .1) in
+    let a = areas-both s t (headerArea h) (directoryArea h ++ directories) all in
+    let b = areas-both s t (directoryArea h) directories (a .1) in
+    let d = areas-both s t (redundantArea h) tables (b .1) in
     let e = areas-both s t (primaryTables s h) copies (d .1) in
     let f = areas-both s t (redundantTables s h) ends (e .1) in
     let g = areas-both s t (footerArea s h) (lastArea s h) (f .1) in
     record {
       header = a .0;
-      directory = c .0;
+      directory = b .0;
       redundant = d .0;
       tables = e .0;
       copies = f .0;
@@ -142,8 +141,8 @@ module _ (s t : List ℕ) (both : SameFrame s t) where
             (rw (redundant-tables s h two) at (parts .copies));
         markers = λ p g e l q i.
             let same = both .markers p g e l q i in (
-              number-same s t (512 * e + 8) 4 (within s t (512 * e) 12 (512 * e + 8) 4 same (omega arith) (omega arith)),
-              number-same s t (512 * e) 8 (within s t (512 * e) 12 (512 * e) 8 same (omega arith) (omega arith)),
+              number-same s t (512 * e + 8) 4 (within s t (512 * e) _ (512 * e + 8) 4 same (omega arith) (omega arith)),
+              number-same s t (512 * e) 8 (within s t (512 * e) _ (512 * e) 8 same (omega arith) (omega arith)),
             );
       }
 

@@ -1,4 +1,5 @@
-//! `bench [--quick] [CALL]..`: times of the proved library's calls beside those of their rivals, as one table in Markdown.
+//! `bench [--quick] [CALL]..`: times of the proved library's calls, or of the tool's commands, beside those of their rivals, as
+//! one table in Markdown.
 //!
 //! README.md says what is measured and how. Status 1 where something failed or two sides gave different answers, 2 where
 //! nothing was measured: wrong arguments, or no x86-64 processor.
@@ -6,6 +7,7 @@
 mod bitmap;
 mod check;
 mod collapse;
+mod commands;
 mod descriptor;
 mod folder;
 mod image;
@@ -28,6 +30,8 @@ use std::process::exit;
 /// Inputs depend on it alone.
 const SEED: u64 = 7;
 const CALLS: [&str; 5] = ["check", "lookup", "chain", "collapse", "descriptor"];
+/// Not among them: it needs the tool, built, and measures a disk too.
+const COMMANDS: &str = "commands";
 
 type Outcome = Result<(), Box<dyn Error>>;
 
@@ -70,9 +74,9 @@ fn main() {
     for argument in std::env::args().skip(1) {
         match argument.as_str() {
             "--quick" => quick = true,
-            call if CALLS.contains(&call) => calls.push(call.to_string()),
+            call if CALLS.contains(&call) || call == COMMANDS => calls.push(call.to_string()),
             _ => {
-                eprintln!("bench [--quick] [CALL]..: a call is one of {CALLS:?}; all without any");
+                eprintln!("bench [--quick] [CALL]..: a call is one of {CALLS:?}, all without any, or {COMMANDS:?}: the tool's");
                 exit(2)
             }
         }
@@ -125,6 +129,9 @@ fn run(quick: bool, calls: &[String]) -> Result<Report, Box<dyn Error>> {
     }
     if wanted("descriptor") {
         descriptor::measure(&setup, &mut report)?;
+    }
+    if wanted(COMMANDS) {
+        commands::measure(&setup, &mut report)?;
     }
     if let Ok(start) = setup.qemu.start() {
         report.note(format!(

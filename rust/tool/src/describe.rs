@@ -2,8 +2,10 @@
 
 use crate::cli::stream;
 use crate::failure::{Failure, Refusal};
-use crate::files::Layers;
+use crate::frame::copy_ends;
+use crate::layer::Layer;
 use crate::names::{put_bytes, shown};
+use crate::own::Own;
 use crate::print;
 use crate::streams;
 use anhkhovet::{Descriptor, Extent, Header, SECTOR};
@@ -29,17 +31,22 @@ fn is_text(start: &[u8]) -> bool {
     }
 }
 
+/// Header and footer decide where the text is: no more is read but the text.
 fn of_file(path: &Path) -> Result<Text, Failure> {
-    let layers = Layers::one(path)?;
-    let image = layers.bytes(0);
+    let layer = Layer::open(path)?;
+    let mut own = Own::new(layer.length() as usize)
+        .map_err(Failure::system(path, "is too long to be mapped"))?;
+    copy_ends(&layer, own.bytes_mut())?;
+    let image = own.bytes();
     let (part, embedded) = if is_text(image) {
-        (0..(image.len() as u64).min(MOST), false)
+        (0..layer.length().min(MOST), false)
     } else {
         let header = anhkhovet::header(image).map_err(Failure::refused(path))?;
         (inside(path, image, &header)?, true)
     };
-    let bytes = layers.part(0, part)?;
-    layers.same()?;
+    let mut bytes = vec![0; (part.end - part.start) as usize];
+    layer.read(part.start, &mut bytes)?;
+    layer.same()?;
     Ok(Text { bytes, embedded })
 }
 
@@ -57,12 +64,9 @@ fn inside(path: &Path, image: &[u8], header: &Header) -> Result<Range<u64>, Fail
         let from = first * SECTOR;
         return Ok(from..from + (sectors * SECTOR).min(MOST));
     }
-    // The check judges the descriptor's place first of all places, and tells how.
-    Err(match anhkhovet::check(image) {
-        Err(refusal) => Failure::refused(path)(refusal),
-        // Only an image that changes under the tool gets here.
-        Ok(_) => Failure::changed(path),
-    })
+    // The library refuses it for its place, which header and footer tell.
+    let refusal = anhkhovet::frame(image).err();
+    Err(refusal.map_or_else(|| Failure::changed(path), Failure::refused(path)))
 }
 
 fn of_input(path: &Path) -> Result<Text, Failure> {

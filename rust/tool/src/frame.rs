@@ -22,10 +22,7 @@ const ENTRIES: u64 = 512;
 
 /// Copies the frame into own bytes that are zero, and lists its areas; or what the check refuses the image for, if 1 to 8.
 pub fn copy(layer: &Layer, own: &mut [u8]) -> Result<Result<Vec<Area>, Refusal>, Failure> {
-    let length = own.len();
-    layer.read(0, &mut own[..FIRST.min(length)])?;
-    let last = length.saturating_sub(LAST);
-    layer.read(last as u64, &mut own[last..])?;
+    copy_ends(layer, own)?;
     let mut copied = HashSet::new();
     for _ in 0..ROUNDS {
         let areas = match anhkhovet::frame(own) {
@@ -47,6 +44,14 @@ pub fn copy(layer: &Layer, own: &mut [u8]) -> Result<Result<Vec<Area>, Refusal>,
     }
     // Areas that overlap are copied twice, and were not the same both times.
     Err(Failure::changed(&layer.path))
+}
+
+/// Copies header and footer alone.
+pub fn copy_ends(layer: &Layer, own: &mut [u8]) -> Result<(), Failure> {
+    let length = own.len();
+    layer.read(0, &mut own[..FIRST.min(length)])?;
+    let last = length.saturating_sub(LAST);
+    layer.read(last as u64, &mut own[last..])
 }
 
 /// Parts in the file's order, and those that meet as one: tables mostly stand in a row.

@@ -68,6 +68,10 @@ impl Mapping {
         self.start
     }
 
+    pub fn length(&self) -> usize {
+        self.length
+    }
+
     /// # Safety
     ///
     /// The file may change under the slice. So it is only for a reader to which those bytes may be anything at any time.

@@ -55,11 +55,16 @@ impl Output {
             .map_err(Failure::system(&self.place.path, "cannot be written"))
     }
 
-    /// As memory of that length.
-    pub fn map(self, length: u64) -> Result<Mapped, Failure> {
+    /// Another handle of the file.
+    pub fn file(&self) -> Result<File, Failure> {
+        self.file
+            .try_clone()
+            .map_err(Failure::system(&self.place.path, "cannot be read"))
+    }
+
+    /// Room on the disk, where the file system can promise it; else only the length.
+    pub fn reserve(&self, length: u64) -> Result<(), Failure> {
         let path = &self.place.path;
-        let room = usize::try_from(length)
-            .map_err(|_| Failure::unfit(path, "is too long to be mapped"))?;
         reserve(&self.file, length).map_err(|error| match error.raw_os_error() {
             Some(libc::ENOSPC | libc::EDQUOT) => Failure::unfit(
                 path,
@@ -72,16 +77,24 @@ impl Output {
                 "cannot be written, so there is no output",
                 error,
             ),
-        })?;
-        let map = Mapping::shared(&self.file, room).map_err(Failure::system(
-            path,
-            "cannot be mapped, so there is no output",
-        ))?;
+        })
+    }
+
+    /// As memory of that length, for which there is room.
+    pub fn map(self, length: u64) -> Result<Mapped, Failure> {
+        let path = &self.place.path;
+        let map = usize::try_from(length)
+            .map_err(|_| io::ErrorKind::OutOfMemory.into())
+            .and_then(|length| Mapping::shared(&self.file, length))
+            .map_err(Failure::system(
+                path,
+                "cannot be mapped, so there is no output",
+            ))?;
         let full = Failure::unfit(
             path,
             "the disk is full or failed while this was written, so there is no output",
         );
-        let watch = Watch::new(map.start(), room, &full.to_string());
+        let watch = Watch::new(map.start(), map.length(), &full.to_string());
         Ok(Mapped {
             output: self,
             map,
@@ -142,7 +155,6 @@ impl Drop for Output {
     }
 }
 
-/// Room on the disk, where the file system can promise it; else only the length.
 fn reserve(file: &File, length: u64) -> io::Result<()> {
     let long = libc::off_t::try_from(length).map_err(|_| io::ErrorKind::InvalidInput)?;
     // SAFETY: a plain call on an open file.
@@ -172,18 +184,14 @@ fn keep(file: &File, old: &Metadata) -> io::Result<()> {
 }
 
 impl Mapped {
-    /// Cut to the result's length and under its final name.
-    pub fn finish(self, length: u64) -> Result<(), Failure> {
-        let Mapped {
-            output,
-            map,
-            _watch,
-        } = self;
+    /// A file again, of the result's length.
+    pub fn cut(self, length: u64) -> Result<Output, Failure> {
+        let Mapped { output, map, .. } = self;
         drop(map);
         output
             .file
             .set_len(length)
             .map_err(Failure::system(&output.place.path, "cannot be written"))?;
-        output.finish()
+        Ok(output)
     }
 }

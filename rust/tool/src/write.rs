@@ -1,130 +1,72 @@
 //! `collapse` and `normal`: images written by the library into a mapped file.
+//!
+//! Every refusal is found on the tool's own bytes, before anything is written; then grains are copied from the files.
 
 use crate::cli::Target;
 use crate::failure::{Failure, Refusal, Status};
 use crate::files::{unlike, Layers};
-use crate::guard::Watch;
+use crate::lent::{self, Lent};
 use crate::names::{name, put_name};
 use crate::output::{Mapped, Output};
 use crate::print;
 use crate::progress::Progress;
-use crate::span::Span;
-use anhkhovet::{Disk, Source, SECTOR};
+use crate::room::Room;
 use serde_json::json;
 use std::path::{Path, PathBuf};
 
-/// The length of what is written of these images, lowest first, as docs/COLLAPSE.md has it. They are accepted and alike.
-fn length(disk: Disk, images: &[&[u8]]) -> u64 {
-    let Disk {
-        capacity,
-        grain_size: size,
-    } = disk;
-    let tables = up(capacity, 512 * size);
-    let start = up(1 + up(tables * 4, SECTOR) + 4 * tables, size) * size;
-    let grains = 0..up(capacity, size);
-    let stored = grains.filter(|grain| stored(images, grain * size)).count() as u64;
-    SECTOR * (start + stored * size)
-}
-
-/// Whether the topmost image that has the sector at all stores it.
-fn stored(images: &[&[u8]], sector: u64) -> bool {
-    let sources = images.iter().rev();
-    let mut found = sources.map(|image| anhkhovet::lookup(image, sector));
-    let topmost = found.find(|source| *source != Ok(Source::Absent));
-    matches!(topmost, Some(Ok(Source::Stored { .. })))
-}
-
-/// A quotient, rounded up.
-fn up(number: u64, by: u64) -> u64 {
-    (number + by - 1) / by
-}
-
-/// A file, mapped: its grains are not among the tool's own bytes.
-struct Live {
-    layers: Layers,
-    span: Span,
-    _watch: Watch,
-}
-
-impl Live {
-    fn open(path: &Path) -> Result<Live, Failure> {
-        let layers = Layers::one(path)?;
-        let length = layers.bytes(0).len();
-        let span = Span::of(&[(layers.file(0), length as u64)], length)
-            .map_err(|(_, error)| Failure::System(path.to_path_buf(), "cannot be mapped", error))?;
-        let cut =
-            "the file was cut while it was read, or cannot be read there, so there is no answer";
-        let told = Failure::unfit(path, cut).to_string();
-        let watch = Watch::new(span.bytes().as_ptr(), length, &told);
-        Ok(Live {
-            layers,
-            span,
-            _watch: watch,
-        })
-    }
-
-    fn bytes(&self) -> &[u8] {
-        self.span.bytes()
-    }
-
-    fn same(&self) -> Result<(), Failure> {
-        self.layers.same()
-    }
-}
-
-/// One image to collapse: a file, or what was collapsed before and is not yet under its name.
-enum Image {
-    File(Live),
-    Between(Mapped, u64),
-}
-
-impl Image {
-    fn bytes(&self) -> &[u8] {
-        match self {
-            Image::File(file) => file.bytes(),
-            // SAFETY: as for every file that is mapped.
-            Image::Between(mapped, length) => unsafe { &mapped.map.bytes()[..*length as usize] },
-        }
-    }
-
-    /// What was collapsed before is told by what it was made of.
-    fn path<'a>(&'a self, before: &'a Path) -> &'a Path {
-        match self {
-            Image::File(file) => file.layers.path(0),
-            Image::Between(..) => before,
-        }
-    }
-
-    fn same(&self) -> Result<(), Failure> {
-        match self {
-            Image::File(file) => file.same(),
-            Image::Between(..) => Ok(()),
-        }
-    }
-}
-
-/// The refusal of an output that is too short: the answer for an image that is not refused, where there is no output at all.
+/// The refusal of an output that is too short: where there is none at all, the answer for images that are not refused.
 const NO_ROOM: u64 = 21;
 
-/// The length that the library wrote, or its refusal.
-type Written = Result<u64, anhkhovet::Refusal>;
+/// Why images are refused, asked with no output at all.
+fn refusal(asked: Result<u64, anhkhovet::Refusal>) -> Option<anhkhovet::Refusal> {
+    asked.err().filter(|why| why.number != NO_ROOM)
+}
 
-/// Lends the library an output of the result's length.
-fn lend(
-    output: Output,
-    images: &[&[u8]],
-    call: impl Fn(&mut [u8]) -> Written,
-) -> Result<(Written, Option<Mapped>), Failure> {
-    let refused = call(&mut []);
-    match anhkhovet::header(images[0]) {
-        Ok(header) if refused.map_err(|why| why.number) == Err(NO_ROOM) => {
-            let mut mapped = output.map(length(header.disk, images))?;
-            // SAFETY: as for every file that is mapped.
-            let written = call(unsafe { mapped.map.bytes_mut() });
-            Ok((written, Some(mapped)))
-        }
-        _ => Ok((refused, None)),
+/// An output for what is made of these images, lowest first, which are not refused.
+fn room(output: Output, images: &[&Layers]) -> Result<Mapped, Failure> {
+    let bytes: Vec<&[u8]> = images.iter().map(|image| image.bytes(0)).collect();
+    let header = anhkhovet::header(bytes[0]).map_err(Failure::refused(images[0].path(0)))?;
+    let room = Room {
+        disk: header.disk,
+        images: &bytes,
+    };
+    let most = room.most();
+    if output.reserve(most).is_ok() {
+        return output.map(most);
     }
+    let exact = room.exact();
+    output.reserve(exact)?;
+    output.map(exact)
+}
+
+fn told(target: &Target, length: u64, json: bool) -> Result<(), Failure> {
+    print::answer(
+        json,
+        || format!("{}: written, {length} bytes\n", name(&target.path)),
+        || {
+            let mut object = json!({ "length": length });
+            put_name(&mut object, "output", &target.path);
+            object
+        },
+    )
+}
+
+pub fn normal(path: &Path, target: &Target, json: bool) -> Result<(), Failure> {
+    let mut image = Layers::one(path)?;
+    let output = Output::create(target, &[path.to_path_buf()])?;
+    let progress = Progress::start("writing the normal form", 0);
+    let asked = image.ask(0, |bytes| anhkhovet::normal(bytes, &mut []))?;
+    if let Some(why) = refusal(asked) {
+        image.same()?;
+        return Err(Failure::refused(path)(why));
+    }
+    let mut mapped = room(output, &[&image])?;
+    let written = lent::normal(&Lent::of(&image)?, &mut mapped.map);
+    image.same()?;
+    let length = written.map_err(Failure::refused(path))?;
+    mapped.cut(length)?.finish()?;
+    drop(progress);
+    told(target, length, json)
 }
 
 /// Whose refusal it is: the library judges the lower image, then the upper one, and tells only the number.
@@ -146,63 +88,52 @@ fn blamed(why: anhkhovet::Refusal, lower: (&Path, &[u8]), upper: (&Path, &[u8]))
     refusal
 }
 
-fn told(target: &Target, length: u64, json: bool) -> Result<(), Failure> {
-    print::answer(
-        json,
-        || format!("{}: written, {length} bytes\n", name(&target.path)),
-        || {
-            let mut object = json!({ "length": length });
-            put_name(&mut object, "output", &target.path);
-            object
-        },
-    )
+/// Judges the images pair by pair, lowest first.
+fn judged(images: &mut [Layers]) -> Result<(), Failure> {
+    for image in &mut *images {
+        // What a check decides by is the tool's own then. Its answer comes again below, in its turn.
+        let _ = image.ask(0, anhkhovet::check)?;
+    }
+    for pair in images.windows(2) {
+        let [lower, upper] = [&pair[0], &pair[1]].map(|image| (image.path(0), image.bytes(0)));
+        if let Some(why) = refusal(anhkhovet::collapse(lower.1, upper.1, &mut [])) {
+            pair.iter().try_for_each(Layers::same)?;
+            return Err(Failure::Refused(blamed(why, lower, upper)));
+        }
+    }
+    Ok(())
 }
 
-pub fn normal(path: &Path, target: &Target, json: bool) -> Result<(), Failure> {
-    let layers = Live::open(path)?;
-    let image = layers.bytes();
-    let output = Output::create(target, &[path.to_path_buf()])?;
-    let progress = Progress::start("writing the normal form", 0);
-    let (written, mapped) = lend(output, &[image], |out| anhkhovet::normal(image, out))?;
-    layers.same()?;
-    let length = written.map_err(Failure::refused(path))?;
-    // Only an image that changes under the tool has a header that is first refused and then not.
-    let mapped = mapped.ok_or_else(|| Failure::changed(path))?;
-    mapped.finish(length)?;
-    drop(progress);
-    told(target, length, json)
+/// Two images in one, which is not finished.
+fn merged(lower: &Layers, upper: &Layers, output: Output) -> Result<(Output, u64), Failure> {
+    let mut mapped = room(output, &[lower, upper])?;
+    let written = lent::collapse(&Lent::of(lower)?, &Lent::of(upper)?, &mut mapped.map);
+    lower.same()?;
+    upper.same()?;
+    let length = written.map_err(|why| Failure::Refused(Refusal::new(why, None)))?;
+    Ok((mapped.cut(length)?, length))
 }
 
 pub fn collapse(paths: &[PathBuf], target: &Target, json: bool) -> Result<(), Failure> {
+    let images = paths.iter().map(|path| Layers::one(path));
+    let mut images = images.collect::<Result<Vec<Layers>, Failure>>()?;
+    let mut output = Output::create(target, paths)?;
     let progress = Progress::start("collapsing", 0);
-    let mut inputs = paths.iter();
-    let first = inputs.next().ok_or(Failure::Told(Status::Misused))?;
-    let mut lower = Image::File(Live::open(first)?);
-    // The layers that the lower image stands for, told where it is refused.
-    let mut before = first.clone();
-    for path in inputs {
-        let upper = Live::open(path)?;
-        let images = [lower.bytes(), upper.bytes()];
-        let output = Output::create(target, paths)?;
-        let (written, mapped) = lend(output, &images, |out| {
-            anhkhovet::collapse(images[0], images[1], out)
-        })?;
-        lower.same()?;
-        upper.same()?;
-        let length = written.map_err(|why| {
-            let lower = (lower.path(&before), images[0]);
-            Failure::Refused(blamed(why, lower, (path, images[1])))
-        })?;
-        let mapped = mapped.ok_or_else(|| Failure::changed(path))?;
-        lower = Image::Between(mapped, length);
-        before = path.clone();
-    }
-    match lower {
-        Image::Between(mapped, length) => {
-            mapped.finish(length)?;
+    judged(&mut images)?;
+    // From the top down, so that the base, which is often by far the longest, is copied once. The bytes are the same.
+    let mut upper = images.pop().ok_or(Failure::Told(Status::Misused))?;
+    // What was merged last goes when something was made of it.
+    let mut _between = None;
+    while let Some(lower) = images.pop() {
+        let (merged, length) = merged(&lower, &upper, output)?;
+        if images.is_empty() {
+            merged.finish()?;
             drop(progress);
-            told(target, length, json)
+            return told(target, length, json);
         }
-        Image::File(_) => Err(Failure::Told(Status::Misused)),
+        upper = Layers::of_file(&target.path, merged.file()?)?;
+        _between = Some(merged);
+        output = Output::create(target, paths)?;
     }
+    Err(Failure::Told(Status::Misused))
 }

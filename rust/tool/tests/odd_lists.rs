@@ -4,7 +4,7 @@ mod common;
 #[path = "common/image.rs"]
 mod image;
 
-use common::{emulated, run, tool, Folder, Ran};
+use common::{emulated, run, run_soon, tool, Folder, Ran};
 use image::Image;
 use std::fs;
 use std::io::Write;
@@ -82,7 +82,7 @@ fn a_named_pipe_without_a_writer_reads_as_empty() {
     let made = Command::new("mkfifo").arg(folder.at("pipe")).status();
     assert!(made.expect("mkfifo").success());
     fails(
-        &run(folder.path(), &["digest", IMAGE, "--list", "pipe"]),
+        &run_soon(folder.path(), &["digest", IMAGE, "--list", "pipe"]),
         &["pipe: there is no line to compare with; 2048 of the disk's 2048 sectors are left out"],
     );
 }
@@ -91,7 +91,7 @@ fn a_named_pipe_without_a_writer_reads_as_empty() {
 #[test]
 fn a_device_is_no_list() {
     let folder = Folder::new().with(&[IMAGE]);
-    let ran = run(folder.path(), &["digest", IMAGE, "--list", "/dev/zero"]);
+    let ran = run_soon(folder.path(), &["digest", IMAGE, "--list", "/dev/zero"]);
     assert_eq!(ran.status, Some(3));
     assert!(ran
         .text()

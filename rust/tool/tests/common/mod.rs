@@ -84,6 +84,15 @@ pub fn run(folder: &Path, words: &[&str]) -> Ran {
     Ran::of(tool(folder).args(words).output().expect("the tool starts"))
 }
 
+/// The same where waiting without end would be the mistake: status 124 after a while.
+pub fn run_soon(folder: &Path, words: &[&str]) -> Ran {
+    let mut command = Command::new("timeout");
+    command.arg("30").args(std::env::var_os("ANHKHOVET_RUNNER"));
+    command.arg(TOOL).args(words);
+    command.current_dir(folder).stdin(Stdio::null());
+    Ran::of(command.output().expect("timeout starts"))
+}
+
 /// A folder that goes when the test ends.
 pub struct Folder(PathBuf);
 

@@ -1,0 +1,236 @@
+//! Whole commands of the tool on files of a disk, beside what people run else: every time is of processes, from start to end.
+
+use crate::image::{up, Image, GRAIN};
+use crate::report::{Figure, Report, Timed};
+use crate::{agree, Outcome, Setup, SEED};
+use compare::rng::Rng;
+use std::ffi::{OsStr, OsString};
+use std::fs::{read, read_to_string, remove_file, write};
+use std::path::{Path, PathBuf};
+use std::process::{Command, Stdio};
+use std::time::{Duration, Instant};
+
+/// One way to do the work: programs and their words, one after the other.
+struct Way {
+    name: &'static str,
+    steps: Vec<Vec<OsString>>,
+}
+
+impl Way {
+    fn new(name: &'static str, steps: &[&[&OsStr]]) -> Way {
+        let owned = |step: &&[&OsStr]| step.iter().map(|word| word.to_os_string()).collect();
+        Way {
+            name,
+            steps: steps.iter().map(owned).collect(),
+        }
+    }
+
+    fn time(&self) -> Result<Duration, String> {
+        let start = Instant::now();
+        self.steps.iter().try_for_each(|step| run(step))?;
+        Ok(start.elapsed())
+    }
+}
+
+fn run(words: &[OsString]) -> Result<(), String> {
+    let program = words[0].to_string_lossy();
+    let status = Command::new(&words[0])
+        .args(&words[1..])
+        .stdin(Stdio::null())
+        .stdout(Stdio::null())
+        .status();
+    match status {
+        Ok(status) if status.success() => Ok(()),
+        Ok(status) => Err(format!("{program} failed, {status}")),
+        Err(_) => Err(format!("{program} is not there")),
+    }
+}
+
+/// The files of all measures.
+struct Files {
+    tool: PathBuf,
+    /// Every grain stored, and half of them at random above it.
+    disk: PathBuf,
+    upper: PathBuf,
+    /// The disk's bytes as they are read.
+    raw: PathBuf,
+    out: PathBuf,
+}
+
+impl Files {
+    fn new(setup: &Setup, mib: u64) -> Result<Files, Box<dyn std::error::Error>> {
+        let tool = Path::new(env!("CARGO_MANIFEST_DIR")).join("../tool/target/release/anhkhovet");
+        if !tool.exists() {
+            let how = "rust/cargo --debian build --release --manifest-path rust/tool/Cargo.toml";
+            return Err(format!("the tool is not built: {how}").into());
+        }
+        let capacity = mib << 11;
+        let disk = Image::new(capacity, "disk.vmdk", None, |_| true);
+        let mut rng = Rng::new(SEED, 4);
+        let upper = Image::new(capacity, "upper.vmdk", Some("disk.vmdk"), |_| rng.one_in(2));
+        let files = Files {
+            tool,
+            disk: setup.folder.path("disk.vmdk"),
+            upper: setup.folder.path("upper.vmdk"),
+            raw: setup.folder.path("raw"),
+            out: setup.folder.path("out.vmdk"),
+        };
+        let bytes = disk.filled(&mut Rng::new(SEED, 5));
+        let grains = (0..up(capacity, GRAIN)).filter_map(|grain| disk.grain(&bytes, grain));
+        write(&files.raw, grains.collect::<Vec<_>>().concat())?;
+        write(&files.disk, bytes)?;
+        write(&files.upper, upper.filled(&mut Rng::new(SEED, 6)))?;
+        Ok(files)
+    }
+
+    /// A step of the tool, with these words before and after the files.
+    fn tool<'a>(&'a self, words: &[&'a OsStr]) -> Vec<&'a OsStr> {
+        [&[self.tool.as_os_str()], words].concat()
+    }
+}
+
+/// Times all ways in turn, so that what the disk does meanwhile falls on each alike. The first way is ours.
+fn race(setup: &Setup, report: &mut Report, call: &str, label: &str, out: &Path, ways: &[Way]) {
+    setup.progress(&format!("{call}, whole command"));
+    let settled = Way::new("", &[&["sync".as_ref()]]);
+    let mut least: Vec<Result<Duration, String>> = ways.iter().map(|_| Ok(Duration::MAX)).collect();
+    for _ in 0..setup.rounds {
+        for (way, least) in ways.iter().zip(&mut least) {
+            // Not there in the first round; nothing that an earlier way left is written in a later one's time.
+            let _ = remove_file(out);
+            let timed = settled.time().and_then(|_| way.time());
+            *least = least.clone().and_then(|best| Ok(best.min(timed?)));
+        }
+    }
+    let figures: Vec<Timed> = least
+        .into_iter()
+        .map(|time| time.map(Figure::whole))
+        .collect();
+    report.measure(call, label, &figures[0]);
+    for (way, figure) in ways.iter().zip(&figures).skip(1) {
+        report.against(way.name, figure);
+    }
+}
+
+/// The kind of file system that a folder is on.
+fn file_system(folder: &Path) -> String {
+    let mounts = read_to_string("/proc/self/mounts").unwrap_or_default();
+    let found = mounts.lines().filter_map(|line| {
+        let mut words = line.split(' ').skip(1);
+        let (place, kind) = (words.next()?, words.next()?);
+        folder.starts_with(place).then_some((place.len(), kind))
+    });
+    // The last of equal ones is mounted over the others.
+    found
+        .max_by_key(|(length, _)| *length)
+        .map_or("a file system not known", |(_, kind)| kind)
+        .to_string()
+}
+
+pub fn measure(setup: &Setup, report: &mut Report) -> Outcome {
+    let mib = if setup.quick { 16 } else { 512 };
+    let files = Files::new(setup, mib)?;
+    let kind = file_system(&setup.folder.path(""));
+    let label = format!("{mib} MiB, every grain stored, on {kind}");
+    reading(setup, report, &label, &files);
+    let wide: &OsStr = files.disk.as_os_str();
+    let ours = [
+        OsStr::new("normal"),
+        wide,
+        "-o".as_ref(),
+        files.out.as_os_str(),
+    ];
+    writing(setup, report, &files, ("normal", &label), &ours)?;
+    let label = format!("{mib} MiB result, half of it from each of two layers, on {kind}");
+    let ours = [
+        OsStr::new("collapse"),
+        wide,
+        files.upper.as_os_str(),
+        "-o".as_ref(),
+        files.out.as_os_str(),
+    ];
+    writing(setup, report, &files, ("collapse", &label), &ours)
+}
+
+fn reading(setup: &Setup, report: &mut Report, label: &str, files: &Files) {
+    let (disk, raw, qemu) = (
+        files.disk.as_os_str(),
+        files.raw.as_os_str(),
+        OsStr::new("qemu-img"),
+    );
+    let mut race = |call: &'static str, rival, words: &[&OsStr]| {
+        let ours = files.tool(&[call.as_ref(), disk]);
+        let ways = [Way::new("", &[&ours]), Way::new(rival, &[words])];
+        self::race(setup, report, call, label, &files.out, &ways);
+    };
+    race("check", "`qemu-img check`", &[qemu, "check".as_ref(), disk]);
+    race("map", "`qemu-img map`", &[qemu, "map".as_ref(), disk]);
+    let openssl = ["openssl", "dgst", "-sha256"].map(OsStr::new);
+    race(
+        "digest",
+        "`openssl dgst -sha256` of the raw bytes",
+        &[&openssl[..], &[raw]].concat(),
+    );
+}
+
+/// A command that writes, beside a copy of the same bytes and qemu-img's conversion of the same disk, with their sync and without.
+fn writing(
+    setup: &Setup,
+    report: &mut Report,
+    files: &Files,
+    (call, label): (&str, &str),
+    words: &[&OsStr],
+) -> Outcome {
+    let ours = files.tool(words);
+    let result = setup.folder.path("result.vmdk");
+    let _ = remove_file(&files.out);
+    Way::new("", &[&ours]).time()?;
+    std::fs::rename(&files.out, &result)?;
+    right(files, call, &result)?;
+
+    let (out, top) = (
+        files.out.as_os_str(),
+        if call == "normal" {
+            &files.disk
+        } else {
+            &files.upper
+        },
+    );
+    let copy = ["cp".as_ref(), result.as_os_str(), out];
+    let [qemu, convert, to, format] = ["qemu-img", "convert", "-O", "vmdk"].map(OsStr::new);
+    let convert = [qemu, convert, to, format, top.as_os_str(), out];
+    let sync = ["sync".as_ref(), out];
+    let ways = [
+        Way::new("", &[&ours]),
+        Way::new(
+            "`cp` of the same bytes, then `sync` of the copy",
+            &[&copy, &sync],
+        ),
+        Way::new("`cp` alone", &[&copy]),
+        Way::new(
+            "`qemu-img convert`, then `sync` of its output",
+            &[&convert, &sync],
+        ),
+        Way::new("`qemu-img convert` alone", &[&convert]),
+    ];
+    race(setup, report, call, label, &files.out, &ways);
+    remove_file(&result)?;
+    Ok(())
+}
+
+/// A time of a wrong result is no figure.
+fn right(files: &Files, call: &str, result: &Path) -> Outcome {
+    let disk = read(&files.disk)?;
+    let room = 2 * disk.len();
+    let expected = match call {
+        "normal" => plain::normal(&disk, room),
+        _ => plain::collapse(&disk, &read(&files.upper)?, room),
+    };
+    let expected = expected.map_err(|refusal| format!("{refusal:?}"))?;
+    agree(call, &(read(result)? == expected), &true)
+}
+
+#[test]
+fn a_folder_has_the_file_system_that_is_mounted_nearest() {
+    assert_eq!(file_system(Path::new("/proc/self")), "proc");
+}

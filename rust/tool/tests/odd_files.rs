@@ -1,0 +1,109 @@
+//! What is no plain file: told at once, by every command, and never waited for.
+
+mod common;
+
+use common::{run_soon, Folder};
+use std::fs;
+use std::os::unix::fs::symlink;
+use std::os::unix::net::UnixListener;
+use std::process::Command;
+
+const IMAGE: &str = "tool-base.vmdk";
+
+/// Each command that reads, with the odd file as its only image and as the second one.
+fn readers(odd: &str) -> Vec<Vec<&str>> {
+    vec![
+        vec!["sector", odd, "0"],
+        vec!["sector", IMAGE, odd, "0"],
+        vec!["read", odd, "0"],
+        vec!["map", odd],
+        vec!["map", IMAGE, odd],
+        vec!["digest", odd],
+        vec!["digest", odd, "--list", "list"],
+        vec!["describe", odd],
+        vec!["normal", odd, "-o", "out"],
+        vec!["collapse", odd, IMAGE, "-o", "out"],
+        vec!["collapse", IMAGE, odd, "-o", "out"],
+        vec!["collapse", IMAGE, IMAGE, odd, "-o", "out"],
+    ]
+}
+
+/// Every command tells so, with status 4, and leaves nothing.
+fn told(folder: &Folder, odd: &str, words: &str) {
+    let before = folder.names();
+    let wanted = format!("{odd}: {words}");
+    for reader in readers(odd) {
+        let ran = run_soon(folder.path(), &reader);
+        ran.ended(4, &wanted);
+        assert_eq!(ran.out, b"", "{reader:?}");
+        assert_eq!(folder.names(), before, "{reader:?}");
+    }
+    let ran = run_soon(folder.path(), &["check", odd, IMAGE]);
+    assert_eq!((ran.status, ran.err.as_str()), (Some(4), ""));
+    let text = ran.text();
+    assert!(
+        text.starts_with(&wanted) && text.lines().count() == 2,
+        "{text}"
+    );
+}
+
+fn folder() -> Folder {
+    let folder = Folder::new().with(&[IMAGE]);
+    fs::write(folder.at("list"), "").expect("written");
+    folder
+}
+
+#[test]
+fn a_named_pipe() {
+    let folder = folder();
+    let made = Command::new("mkfifo").arg(folder.at("odd")).status();
+    assert!(made.expect("mkfifo").success());
+    told(&folder, "odd", "is a named pipe and not a plain file");
+}
+
+#[test]
+fn a_folder() {
+    let folder = folder();
+    fs::create_dir(folder.at("odd")).expect("a folder");
+    told(&folder, "odd", "is a folder and not a plain file");
+}
+
+#[test]
+fn a_socket() {
+    let folder = folder();
+    let _socket = UnixListener::bind(folder.at("odd")).expect("a socket");
+    told(&folder, "odd", "is a socket and not a plain file");
+}
+
+#[test]
+fn devices() {
+    let folder = folder();
+    for device in ["/dev/zero", "/dev/null", "/dev/full", "/dev/tty"] {
+        told(&folder, device, "is a device and not a plain file");
+    }
+}
+
+#[test]
+fn links_are_followed_to_what_they_name() {
+    let folder = folder();
+    symlink("/dev/zero", folder.at("odd")).expect("a link");
+    told(&folder, "odd", "is a device and not a plain file");
+    symlink("nowhere", folder.at("dangling")).expect("a link");
+    told(&folder, "dangling", "cannot be opened: No such file");
+    symlink("around", folder.at("around")).expect("a link");
+    told(&folder, "around", "cannot be opened: Too many levels");
+    symlink(IMAGE, folder.at("image")).expect("a link");
+    run_soon(folder.path(), &["check", "image"]).well();
+}
+
+#[test]
+fn a_folder_that_is_none() {
+    let folder = folder();
+    told(
+        &folder,
+        "tool-base.vmdk/odd",
+        "cannot be opened: Not a directory",
+    );
+    let long = "x".repeat(300);
+    told(&folder, &long, "cannot be opened: File name too long");
+}
