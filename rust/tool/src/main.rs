@@ -37,6 +37,7 @@ mod source;
 mod streams;
 mod worker;
 mod write;
+mod writeback;
 
 use cli::{Stop, Task};
 use failure::{Failure, Status};

@@ -5,12 +5,16 @@ use crate::failure::Failure;
 use crate::guard::{Doomed, Watch};
 use crate::mapping::Mapping;
 use crate::place::Place;
+use crate::writeback::Writeback;
 use std::ffi::CString;
 use std::fs::{File, Metadata, Permissions};
 use std::io::{self, Write};
+use std::mem::zeroed;
 use std::os::unix::fs::{MetadataExt, PermissionsExt};
 use std::os::unix::io::AsRawFd;
 use std::path::PathBuf;
+
+const UNWRITTEN: &str = "cannot be written, so there is no output";
 
 /// A file under a name of its own, which goes unless it is finished.
 pub struct Output {
@@ -26,6 +30,7 @@ pub struct Mapped {
     output: Output,
     pub map: Mapping,
     _watch: Watch,
+    _writeback: Writeback,
 }
 
 impl Output {
@@ -62,7 +67,12 @@ impl Output {
             .map_err(Failure::system(&self.place.path, "cannot be read"))
     }
 
-    /// Room on the disk, where the file system can promise it; else only the length.
+    /// Whether nobody misses so many bytes on the disk for a while.
+    pub fn is_little(&self, length: u64) -> bool {
+        free(&self.file).map_or(false, |free| length <= free / 16)
+    }
+
+    /// Gives it this length, and room on the disk where the file system can promise that.
     pub fn reserve(&self, length: u64) -> Result<(), Failure> {
         let path = &self.place.path;
         reserve(&self.file, length).map_err(|error| match error.raw_os_error() {
@@ -72,30 +82,24 @@ impl Output {
                     "the disk is full: it has no room for {length} bytes, so there is no output"
                 ),
             ),
-            _ => Failure::System(
-                path.clone(),
-                "cannot be written, so there is no output",
-                error,
-            ),
+            _ => Failure::System(path.clone(), UNWRITTEN, error),
         })
     }
 
-    /// As memory of that length, for which there is room.
+    /// As memory, of the length that it has.
     pub fn map(self, length: u64) -> Result<Mapped, Failure> {
         let path = &self.place.path;
         let map = usize::try_from(length)
             .map_err(|_| io::ErrorKind::OutOfMemory.into())
             .and_then(|length| Mapping::shared(&self.file, length))
-            .map_err(Failure::system(
-                path,
-                "cannot be mapped, so there is no output",
-            ))?;
+            .map_err(Failure::system(path, UNWRITTEN))?;
         let full = Failure::unfit(
             path,
             "the disk is full or failed while this was written, so there is no output",
         );
         let watch = Watch::new(map.start(), map.length(), &full.to_string());
         Ok(Mapped {
+            _writeback: Writeback::of(self.file()?),
             output: self,
             map,
             _watch: watch,
@@ -157,6 +161,9 @@ impl Drop for Output {
 
 fn reserve(file: &File, length: u64) -> io::Result<()> {
     let long = libc::off_t::try_from(length).map_err(|_| io::ErrorKind::InvalidInput)?;
+    if free(file).map_or(false, |free| free < length) {
+        return Err(io::Error::from_raw_os_error(libc::ENOSPC));
+    }
     // SAFETY: a plain call on an open file.
     if unsafe { libc::fallocate(file.as_raw_fd(), 0, 0, long) } == 0 {
         return Ok(());
@@ -166,6 +173,17 @@ fn reserve(file: &File, length: u64) -> io::Result<()> {
         Some(libc::EOPNOTSUPP | libc::ENOSYS) => file.set_len(length),
         _ => Err(error),
     }
+}
+
+/// The bytes that are free, where the file system knows. Asking for more would take all of them for a moment, from everybody.
+fn free(file: &File) -> Option<u64> {
+    // SAFETY: the facts are written over one struct of theirs.
+    let (status, facts) = unsafe {
+        let mut facts: libc::statvfs64 = zeroed();
+        (libc::fstatvfs64(file.as_raw_fd(), &mut facts), facts)
+    };
+    let known = status == 0 && facts.f_blocks > 0;
+    known.then(|| facts.f_bfree.saturating_mul(facts.f_frsize))
 }
 
 /// Gives a file the mode of an old one, and its owner and group where the system allows that.

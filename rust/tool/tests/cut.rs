@@ -109,6 +109,8 @@ fn nobody_reads_on() {
 mod writing {
     use super::*;
     use held::{held, signal, BIG};
+    use std::fs::File;
+    use std::thread::yield_now;
 
     fn ran(child: Child) -> Ran {
         Ran::of(child.wait_with_output().expect("it ends"))
@@ -149,6 +151,26 @@ mod writing {
         image.put(512 * image.start, b"x");
         signal(&child, libc::SIGCONT);
         ran(child).ill("disk: the file changed while it was read");
+        assert_eq!(folder.names(), ["disk"]);
+    }
+
+    /// As a disk that fails under the output, which cannot be had here.
+    #[test]
+    fn an_output_that_is_cut() {
+        let folder = Folder::new();
+        Image::full(&folder.at("disk"), BIG);
+        let child = held(&folder, &["--json", "normal", "disk", "-o", "out"]);
+        let part = folder.at(&folder.names()[0]);
+        let part = File::options().write(true).open(part).expect("the part");
+        signal(&child, libc::SIGCONT);
+        // It gets its length before it is written.
+        while part.metadata().expect("facts").len() == 0 {
+            yield_now();
+        }
+        part.set_len(0).expect("a length");
+        let ran = ran(child);
+        ran.ill("out: the disk is full or failed while this was written");
+        assert!(ran.text().starts_with("{\"failed\":\"out: the disk"));
         assert_eq!(folder.names(), ["disk"]);
     }
 
