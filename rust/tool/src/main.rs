@@ -16,6 +16,7 @@ mod frame;
 mod guard;
 mod hash;
 mod json;
+mod kept;
 mod layer;
 mod lent;
 mod lines;
