@@ -8,7 +8,7 @@ use crate::names::{put_bytes, shown};
 use crate::own::Own;
 use crate::print;
 use crate::streams;
-use anhkhovet::{Descriptor, Extent, Header, SECTOR};
+use anhkhovet::{Descriptor, Extent, SECTOR};
 use serde_json::{json, Value};
 use std::io::Read;
 use std::ops::Range;
@@ -31,27 +31,30 @@ fn is_text(start: &[u8]) -> bool {
     }
 }
 
-/// Header and footer decide where the text is: no more is read but the text.
 fn of_file(path: &Path) -> Result<Text, Failure> {
     let layer = Layer::open(path)?;
-    let mut own = Own::new(layer.length() as usize)
-        .map_err(Failure::system(path, "is too long to be mapped"))?;
-    copy_ends(&layer, own.bytes_mut())?;
-    let image = own.bytes();
-    let (part, embedded) = if is_text(image) {
-        (0..layer.length().min(MOST), false)
-    } else {
-        let header = anhkhovet::header(image).map_err(Failure::refused(path))?;
-        (inside(path, image, &header)?, true)
-    };
-    let mut bytes = vec![0; (part.end - part.start) as usize];
-    layer.read(part.start, &mut bytes)?;
+    let mut bytes = part(&layer, 0..layer.length().min(MOST))?;
+    let embedded = !is_text(&bytes);
+    if embedded {
+        // Header and footer decide where the text is: nothing else is read.
+        let mut own = Own::new(layer.length() as usize)
+            .map_err(Failure::system(path, "is too long to be mapped"))?;
+        copy_ends(&layer, own.bytes_mut())?;
+        bytes = part(&layer, inside(path, own.bytes())?)?;
+    }
     layer.same()?;
     Ok(Text { bytes, embedded })
 }
 
+fn part(layer: &Layer, part: Range<u64>) -> Result<Vec<u8>, Failure> {
+    let mut bytes = vec![0; (part.end - part.start) as usize];
+    layer.read(part.start, &mut bytes)?;
+    Ok(bytes)
+}
+
 /// Where the text stands inside an image.
-fn inside(path: &Path, image: &[u8], header: &Header) -> Result<Range<u64>, Failure> {
+fn inside(path: &Path, image: &[u8]) -> Result<Range<u64>, Failure> {
+    let header = anhkhovet::header(image).map_err(Failure::refused(path))?;
     let (first, sectors) = (header.descriptor, header.descriptor_sectors);
     if first == 0 && sectors == 0 {
         return Err(Failure::Lacking(

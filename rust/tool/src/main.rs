@@ -2,6 +2,7 @@
 //!
 //! The library is lent memory of the tool's own, into which what decides is copied, and the tool tells its answers.
 
+mod batch;
 mod check;
 mod cli;
 mod commands;

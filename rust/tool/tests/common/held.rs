@@ -19,17 +19,24 @@ pub fn held(folder: &Folder, words: &[&str]) -> Child {
 
 /// Holds a command once an unfinished output is in the folder.
 pub fn hold(folder: &Path, command: &mut Command) -> Child {
-    let child = command
+    let child = begun(folder, command);
+    assert!(has_part(folder), "it ended before it was held");
+    signal(&child, libc::SIGSTOP);
+    child
+}
+
+/// Starts a command that writes, and waits until its unfinished output is there.
+pub fn begun(folder: &Path, command: &mut Command) -> Child {
+    let mut child = command
         .stdout(Stdio::piped())
         .stderr(Stdio::piped())
         .spawn()
         .expect("the tool starts");
     let begun = Instant::now();
-    while !has_part(folder) {
+    while !has_part(folder) && child.try_wait().expect("a child").is_none() {
         assert!(begun.elapsed() < Duration::from_secs(60), "no output begun");
         sleep(Duration::from_micros(200));
     }
-    signal(&child, libc::SIGSTOP);
     child
 }
 

@@ -52,13 +52,14 @@ impl Image {
         self.file.set_len(length).expect("a length");
     }
 
+    /// Where the table entry of a grain is, in bytes.
+    pub fn entry_at(&self, grain: u64) -> u64 {
+        512 * (self.tables + 4 * (grain / 512)) + 4 * (grain % 512)
+    }
+
     /// Grain `grain` has table entry `entry`.
     pub fn entry(&self, grain: u64, entry: u64) {
-        let table = self.tables + 4 * (grain / 512);
-        self.put(
-            512 * table + 4 * (grain % 512),
-            &(entry as u32).to_le_bytes(),
-        );
+        self.put(self.entry_at(grain), &(entry as u32).to_le_bytes());
     }
 
     /// Every grain stored, in order, and all of them holes.
