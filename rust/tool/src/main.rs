@@ -17,6 +17,7 @@ mod frame;
 mod guard;
 mod hash;
 mod json;
+mod kept;
 mod layer;
 mod lent;
 mod lines;

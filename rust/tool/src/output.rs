@@ -3,14 +3,15 @@
 use crate::cli::Target;
 use crate::failure::Failure;
 use crate::guard::{Doomed, Watch};
+use crate::kept::keep;
 use crate::mapping::Mapping;
 use crate::place::Place;
+use crate::signals;
 use crate::writeback::Writeback;
 use std::ffi::CString;
-use std::fs::{File, Metadata, Permissions};
+use std::fs::File;
 use std::io::{self, Write};
 use std::mem::zeroed;
-use std::os::unix::fs::{MetadataExt, PermissionsExt};
 use std::os::unix::io::AsRawFd;
 use std::path::PathBuf;
 
@@ -38,14 +39,9 @@ impl Output {
     pub fn create(target: &Target, inputs: &[PathBuf]) -> Result<Output, Failure> {
         let place = Place::of(target, inputs)?;
         // Not for a moment is it open to more people than what it replaces.
-        let mode = place
-            .replaced()?
-            .map_or(0o666, |facts| facts.mode() & 0o777);
-        let unmade = || Failure::system(&place.path, "cannot be created");
-        let part = place.part_name().map_err(unmade())?;
-        // Before the file is there: a signal in between would leave it.
-        let doomed = Doomed::new(place.folder.number(), part.clone());
-        let file = place.folder.create(&part, mode).map_err(unmade())?;
+        let mode = place.replaced()?.map_or(0o666, |_| 0o600);
+        let (file, part, doomed) = signals::held_back(|| begin(&place, mode))
+            .map_err(Failure::system(&place.path, "cannot be created"))?;
         Ok(Output {
             doomed: Some(doomed),
             place,
@@ -112,7 +108,7 @@ impl Output {
         if self.place.force {
             // It may be another one by now.
             if let Some(replaced) = self.place.replaced()? {
-                keep(&self.file, &replaced).map_err(Failure::system(
+                keep(&self.file, &replaced, &path).map_err(Failure::system(
                     &path,
                     "cannot get the mode of what it replaces",
                 ))?;
@@ -159,6 +155,22 @@ impl Drop for Output {
     }
 }
 
+/// A new file, its name, and the promise to remove it. No signal may come between: the file would stay.
+fn begin(place: &Place, mode: u32) -> io::Result<(File, CString, Doomed)> {
+    loop {
+        let part = place.part_name()?;
+        match place.folder.create(&part, mode) {
+            Ok(file) => {
+                let doomed = Doomed::new(place.folder.number(), part.clone());
+                return Ok((file, part, doomed));
+            }
+            // Left by a run that was killed, whose number has come round again: the next name is free.
+            Err(error) if error.kind() == io::ErrorKind::AlreadyExists => {}
+            Err(error) => return Err(error),
+        }
+    }
+}
+
 fn reserve(file: &File, length: u64) -> io::Result<()> {
     let long = libc::off_t::try_from(length).map_err(|_| io::ErrorKind::InvalidInput)?;
     if free(file).map_or(false, |free| free < length) {
@@ -184,21 +196,6 @@ fn free(file: &File) -> Option<u64> {
     };
     let known = status == 0 && facts.f_blocks > 0;
     known.then(|| facts.f_bfree.saturating_mul(facts.f_frsize))
-}
-
-/// Gives a file the mode of an old one, and its owner and group where the system allows that.
-fn keep(file: &File, old: &Metadata) -> io::Result<()> {
-    let new = file.metadata()?;
-    let alike = (new.uid(), new.gid()) == (old.uid(), old.gid());
-    // SAFETY: a plain call on an open file.
-    let hand = |user, group| unsafe { libc::fchown(file.as_raw_fd(), user, group) } == 0;
-    let whole = alike || hand(old.uid(), old.gid());
-    if !whole {
-        hand(libc::uid_t::MAX, old.gid());
-    }
-    // Bits that lend the owner's rights are for that owner alone.
-    let mode = old.mode() & if whole { 0o7777 } else { 0o777 };
-    file.set_permissions(Permissions::from_mode(mode))
 }
 
 impl Mapped {

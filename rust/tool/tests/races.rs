@@ -238,7 +238,7 @@ fn tables_that_turn_while_the_normal_form_is_written() {
         disk.put(at, first);
         let right = Answer::of(&folder, run(folder.path(), &words));
         assert_eq!(right.status, Some(0), "{}", right.err);
-        let child = begun(&folder, tool(folder.path()).args(words));
+        let child = begun(folder.path(), tool(folder.path()).args(words));
         let done = AtomicBool::new(false);
         let ran = thread::scope(|scope| {
             let stopped = StopAtEnd(&done);
