@@ -10,7 +10,12 @@ use Rattle.descriptor.specs.declared.Extent.{Extent}
 use Rattle.descriptor.specs.declared.Line.{Line}
 use Rattle.descriptor.specs.declared.State.{State}
 use Rattle.descriptor.specs.declared.Parsed.{Parsed}
-use Rattle.descriptor.specs.Descriptor.{state, skipped, opened, added, noted, taken}
+use Rattle.base.proofs.Steps.{skip-lt, stop-eq, skip-eq}
+use Rattle.descriptor.specs.declared.Stop.the-variants.{NotByte}
+use Rattle.descriptor.specs.Words.{countBefore}
+use Rattle.descriptor.specs.Text.{textOf, tailOf, lines}
+use Rattle.descriptor.specs.Descriptor.{state, skipped, opened, added, noted, taken, start, refused, judged, judgedText}
+use Rattle.descriptor.specs.Descriptor.{readText}
 use Rattle.text.specs.StateBounds.{Few}
 
 -- ---- a line that says something is skipped first, then what it says is put down
@@ -75,3 +80,18 @@ taken-as z st r v e t = t ∙ ap (taken st) (sym e)
 -- what two texts come to is equal by its fields
 pub parsed-eq : (p q : Parsed) → p .records ≡ q .records → p .count ≡ q .count → p .answer ≡ q .answer → p ≡ q
 parsed-eq p q a b c = λ i. record { records = a i; count = b i; answer = c i }
+
+-- ---- a text that is not too long: what follows the first zero byte are zero bytes, or it is 31
+module _ (s tail text : List ℕ) (n : ℕ) (st : State) (short : length s ≤ 65536) (after : tail ≡ tailOf s)
+    (counted : n ≡ countBefore (NotByte 0) tail) where
+  pub short-read : n ≡ length tail → text ≡ textOf s → st ≡ judged text start (lines text) → st ≡ readText s
+  unfolding readText judgedText
+  short-read all own said =
+      skip-lt _ _ _ 65536 (length s) short
+      (stop-eq _ _ _ (countBefore (NotByte 0) (tailOf s)) (length (tailOf s)) (rw (counted, after) at all) (rw own at said))
+
+  pub short-refused : (n ≡ length tail → ⊥) → st ≡ refused 31 0 start → st ≡ readText s
+  unfolding readText judgedText
+  short-refused some said =
+      skip-lt _ _ _ 65536 (length s) short
+      (skip-eq _ _ _ (countBefore (NotByte 0) (tailOf s)) (length (tailOf s)) (rw (counted, after) at some) said)

@@ -5,7 +5,7 @@ ghost use Prim.Native.Nat.{_+_, _≤_};
 ghost use lib.ListN.{length};
 ghost use Rattle.descriptor.specs.Text.{lines};
 ghost use Rattle.descriptor.specs.Line.{line};
-ghost use Rattle.descriptor.specs.Descriptor.{start, refused, taken, judgedLine, step, judged, judgedText, readText};
+ghost use Rattle.descriptor.specs.Descriptor.{start, refused, taken, judgedLine, step, judged, readText};
 ghost use Rattle.descriptor.specs.Records.{parsed};
 ghost use Rattle.lines.specs.LineBounds.{Within};
 ghost use Rattle.text.specs.StateBounds.{Few};
@@ -79,33 +79,27 @@ fn refused_first(number: u64) -> State
     state::refused(number, 0, state::start())
 }
 
-// The text is all of the `size` bytes up to the first zero byte; of the `left` bytes from there on, `zeros` are zero before
-// another.
-fn judged_text(size: usize, zeros: usize, left: usize, text: &[u8]) -> State
-    requires { ⌜ length (now text) ≤ size ⌝ }
-    ensures { λ r. ⌜ r ≡ judgedText size zeros left (now (text .entry)) ⌝ }
+// What a descriptor's bytes say, where they are not too many: the text is all up to the first zero byte, and from there on only
+// zero bytes may follow.
+fn read_short(s: &[u8]) -> State
+    requires { ⌜ length (now s) ≤ 65536 ⌝ }
+    ensures { λ r. ⌜ r ≡ readText (now (s .entry)) ⌝ }
 {
-    if 65536 < size {
-        return refused_first(36);
-    }
-    if zeros == left {
-        return judged(text);
+    let tail = words::rest(s, Stop::Byte(0));
+    if words::count_before(tail, Stop::NotByte(0)) == tail.len() {
+        return judged(words::before(s, Stop::Byte(0)));
     }
     refused_first(31)
 }
 
-// What a descriptor's bytes say.
+// 36 comes before a byte is read: the bytes may be a whole disk's.
 fn read_text(s: &[u8]) -> State
     ensures { λ r. ⌜ r ≡ readText (now (s .entry)) ⌝ }
 {
-    let tail = words::rest(s, Stop::Byte(0));
-    let text = words::before(s, Stop::Byte(0));
-    judged_text(
-        s.len(),
-        words::count_before(tail, Stop::NotByte(0)),
-        tail.len(),
-        text,
-    )
+    if 65536 < s.len() {
+        return refused_first(36);
+    }
+    read_short(s)
 }
 
 // What a descriptor's bytes come to: its records, by value, and the answer.

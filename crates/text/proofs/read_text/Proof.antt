@@ -1,20 +1,15 @@
-use Rattle.descriptor.specs.Descriptor.{readText}
+use Rattle.base.proofs.Steps.{steps}
+use Rattle.descriptor.specs.Descriptor.{judgedText, readText}
 use borrow.Author.Needs.{needs}
 use Rattle.text.proofs.read_text.Statement.{statement}
 use Rattle.text.proofs.read_text.Tie as tie
 
 pub read-text-spec : {M : Type 1} → statement M
-unfolding readText
+unfolding readText judgedText
 read-text-spec =
     tie.close
     (tie.spec
-    (λ rest-requires κs. search needs)
-    (λ before-requires κs. search needs)
-    (λ count-before-requires κs. search needs)
-    (λ judged-text-requires κs. search needs)
-    (λ c. rw (
-      c .judged-text .ensures,
-      c .before .count-before .ensures .0,
-      c .before .before .before2 .ensures .0,
-      c .before .before .before .rest .ensures .0,
-    )))
+    (λ refused-first-requires κs. search needs)
+    (λ returns. search steps depth 8)
+    (λ read-short-requires κs. search needs)
+    (λ returns-2. search needs))
