@@ -1,11 +1,11 @@
 //! What decides, copied into own bytes: the frame of an image, found by asking the library on what is copied so far.
 //!
-//! A law of the library says that two images of one length that agree in the frame of the one, and in the markers if it is
-//! packed, have the same check and the same lookups. So own bytes that have these answer as the file does.
+//! A law of the library says that two images of one length that agree in the frame of the one, but for its descriptor, and in the
+//! markers if it is packed, have the same check and the same lookups. So own bytes that have these answer as the file does.
 
 use crate::failure::Failure;
 use crate::layer::Layer;
-use anhkhovet::{Area, Refusal, SECTOR};
+use anhkhovet::{Area, Group, Refusal, SECTOR};
 use std::collections::HashSet;
 
 /// Here are header and footer. The header of a COWD image takes 2,048 bytes; a footer and the sector after it are the last
@@ -16,15 +16,18 @@ const LAST: usize = 1536;
 /// Of a file that stands still the second list has all that there is, and the third is the same.
 const ROUNDS: usize = 4;
 
-/// Copies the frame into own bytes that are zero, and lists its areas; or what the check refuses the image for, if 1 to 8.
+/// Copies the frame into own bytes that are zero, and lists the areas that were copied; or what the check refuses the image for, if
+/// 1 to 8.
 pub fn copy(layer: &Layer, own: &mut [u8]) -> Result<Result<Vec<Area>, Refusal>, Failure> {
     copy_ends(layer, own)?;
     let mut copied = HashSet::new();
     for _ in 0..ROUNDS {
-        let areas = match anhkhovet::frame(own) {
+        let mut areas = match anhkhovet::frame(own) {
             Ok(areas) => areas,
             Err(refusal) => return Ok(Err(refusal)),
         };
+        // Its bytes decide nothing, and a header may give it a whole disk.
+        areas.retain(|area| area.group != Group::Descriptor);
         let new: Vec<_> = areas
             .iter()
             .map(|area| (area.first, area.first + area.sectors))
