@@ -221,7 +221,7 @@ fn reading(setup: &Setup, report: &mut Report, label: &str, files: &Files) {
     );
 }
 
-/// A command that writes, beside a copy of the same bytes and qemu-img's conversion of the same disk, with their sync and without.
+/// A command that writes, beside a copy of the same bytes and qemu-img's conversion of the same disk.
 fn writing(
     setup: &Setup,
     report: &mut Report,
@@ -235,21 +235,25 @@ fn writing(
     Way::new("the tool", &[&ours]).time()?;
     std::fs::rename(&files.out, &result)?;
     right(files, call, &result)?;
+    let top = if call == "normal" {
+        &files.disk
+    } else {
+        &files.upper
+    };
+    let ways = ways(&ours, &result, top, files.out.as_os_str());
+    race(setup, report, call, label, &files.out, &ways);
+    remove_file(&result)?;
+    Ok(())
+}
 
-    let (out, top) = (
-        files.out.as_os_str(),
-        if call == "normal" {
-            &files.disk
-        } else {
-            &files.upper
-        },
-    );
+/// The tool syncs what it writes. The others do not, and are timed with a sync and without.
+fn ways(ours: &[&OsStr], result: &Path, top: &Path, out: &OsStr) -> [Way; 5] {
     let copy = ["cp".as_ref(), result.as_os_str(), out];
     let [qemu, convert, to, format] = ["qemu-img", "convert", "-O", "vmdk"].map(OsStr::new);
     let convert = [qemu, convert, to, format, top.as_os_str(), out];
     let sync = ["sync".as_ref(), out];
-    let ways = [
-        Way::new("the tool", &[&ours]),
+    [
+        Way::new("the tool", &[ours]),
         Way::new(
             "`cp` of the same bytes, then `sync` of the copy",
             &[&copy, &sync],
@@ -260,10 +264,7 @@ fn writing(
             &[&convert, &sync],
         ),
         Way::new("`qemu-img convert` alone", &[&convert]),
-    ];
-    race(setup, report, call, label, &files.out, &ways);
-    remove_file(&result)?;
-    Ok(())
+    ]
 }
 
 /// A time of a wrong result is no figure.
