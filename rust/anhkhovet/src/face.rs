@@ -13,43 +13,43 @@ macro_rules! answer {
     };
 }
 
-answer!(
+answer! {
     /// The full check's answer.
     Verdict { number, place, capacity, grain_size }
-);
-answer!(
+}
+answer! {
     /// What a header says; the refusals are 1 to 7 only.
     Head { number, place, capacity, grain_size, descriptor, descriptor_sectors }
-);
-answer!(
+}
+answer! {
     /// Where a sector comes from. Kind: 0 absent, 1 zero, 2 stored, 3 packed.
     Located { number, layer, place, kind, sector, size, offset }
-);
-answer!(
+}
+answer! {
     /// A part of the image, in bytes.
     Part { at, length }
-);
-answer!(
+}
+answer! {
     /// How many areas were listed, three words each: group 1 header, 2 descriptor, 3 directory, 4 redundant directory, 5 primary
     /// table, 6 redundant table, 7 footer, 8 last sector; first sector; sectors.
     Framed { number, place, count }
-);
-answer!(
+}
+answer! {
     /// The length, in bytes, of what was written.
     Written { number, place, length }
-);
-answer!(
+}
+answer! {
     /// What a descriptor says beside its extents.
     Described { number, place, extents, version, cid, parent_cid, type_at, type_length }
-);
-answer!(
+}
+answer! {
     /// One extent. Access: 1 RW, 2 RDONLY, 3 NOACCESS. Kind: 1 FLAT, 2 VMFS, 3 SPARSE, 4 VMFSSPARSE, 5 ZERO.
     Extent { first, sectors, access, kind, name_at, name_length, offset }
-);
-answer!(
+}
+answer! {
     /// The number, in the list, of the extent that holds a sector.
     Found { number, place, extent }
-);
+}
 
 extern "C" {
     pub fn anhkhovet_check(image: *const u8, length: usize) -> Verdict;

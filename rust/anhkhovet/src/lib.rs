@@ -26,8 +26,8 @@
 
 #![warn(missing_docs)]
 
+mod areas;
 mod face;
-mod frame;
 mod images;
 pub mod raw;
 mod refusal;
@@ -35,7 +35,7 @@ mod sectors;
 mod texts;
 mod writing;
 
-pub use frame::{frame, Area, Group};
+pub use areas::{frame, Area, Group};
 pub use images::{check, header, Disk, Header};
 pub use refusal::{ChainRefusal, Counted, Refusal};
 pub use sectors::{chain, lookup, read, read_part, Located, Source};

@@ -1,7 +1,7 @@
 //! Whole commands of the tool on files of a disk, beside what people run else: every time is of processes, from start to end.
 
 use crate::image::{up, Image, GRAIN};
-use crate::report::{Figure, Report, Timed};
+use crate::report::{Figure, Report};
 use crate::{agree, Outcome, Setup, SEED};
 use compare::rng::Rng;
 use std::ffi::{OsStr, OsString};
@@ -25,11 +25,46 @@ impl Way {
         }
     }
 
-    fn time(&self) -> Result<Duration, String> {
-        let start = Instant::now();
+    fn time(&self) -> Result<Taken, String> {
+        let (start, worked) = (Instant::now(), worked()?);
         self.steps.iter().try_for_each(|step| run(step))?;
-        Ok(start.elapsed())
+        Ok(Taken {
+            time: start.elapsed(),
+            processor: self::worked()? - worked,
+        })
     }
+}
+
+/// By the clock, and by the processors, the kernel's work counted in.
+#[derive(Clone, Copy)]
+struct Taken {
+    time: Duration,
+    processor: Duration,
+}
+
+impl Taken {
+    const MOST: Taken = Taken {
+        time: Duration::MAX,
+        processor: Duration::MAX,
+    };
+
+    fn least(self, other: Taken) -> Taken {
+        Taken {
+            time: self.time.min(other.time),
+            processor: self.processor.min(other.processor),
+        }
+    }
+}
+
+/// The processor time of all programs that were run up to now: fields 16 and 17 of /proc/self/stat, counted from 1, in
+/// hundredths of a second.
+fn worked() -> Result<Duration, String> {
+    let stat = read_to_string("/proc/self/stat").map_err(|error| error.to_string())?;
+    // The second field is the program's name in brackets, and may hold spaces.
+    let after = stat.rsplit(')').next().unwrap_or_default();
+    let fields = after.split_whitespace().skip(13).take(2);
+    let ticks: u64 = fields.filter_map(|field| field.parse::<u64>().ok()).sum();
+    Ok(Duration::from_millis(10 * ticks))
 }
 
 fn run(words: &[OsString]) -> Result<(), String> {
@@ -93,22 +128,35 @@ impl Files {
 fn race(setup: &Setup, report: &mut Report, call: &str, label: &str, out: &Path, ways: &[Way]) {
     setup.progress(&format!("{call}, whole command"));
     let settled = Way::new("", &[&["sync".as_ref()]]);
-    let mut least: Vec<Result<Duration, String>> = ways.iter().map(|_| Ok(Duration::MAX)).collect();
+    let mut least: Vec<Result<Taken, String>> = ways.iter().map(|_| Ok(Taken::MOST)).collect();
     for _ in 0..setup.rounds {
         for (way, least) in ways.iter().zip(&mut least) {
             // Not there in the first round; nothing that an earlier way left is written in a later one's time.
             let _ = remove_file(out);
             let timed = settled.time().and_then(|_| way.time());
-            *least = least.clone().and_then(|best| Ok(best.min(timed?)));
+            *least = least.clone().and_then(|best| Ok(best.least(timed?)));
         }
     }
-    let figures: Vec<Timed> = least
-        .into_iter()
-        .map(|time| time.map(Figure::whole))
-        .collect();
-    report.measure(call, label, &figures[0]);
-    for (way, figure) in ways.iter().zip(&figures).skip(1) {
-        report.against(way.name, figure);
+    let figure =
+        |taken: &Result<Taken, String>| taken.clone().map(|taken| Figure::whole(taken.time));
+    report.measure(call, label, &figure(&least[0]));
+    for (way, taken) in ways.iter().zip(&least).skip(1) {
+        report.against(way.name, &figure(taken));
+    }
+    note(report, call, ways, &least);
+}
+
+/// Processor times below a table: where others use the machine too, they say more than the clock.
+fn note(report: &mut Report, call: &str, ways: &[Way], least: &[Result<Taken, String>]) {
+    let told = ways.iter().zip(least).filter_map(|(way, taken)| {
+        let processor = taken.as_ref().ok()?.processor;
+        // The system counts in hundredths.
+        let enough = processor >= Duration::from_millis(50);
+        enough.then(|| format!("{} {}", way.name, Figure::whole(processor)))
+    });
+    let told: Vec<String> = told.collect();
+    if !told.is_empty() {
+        report.note(format!("Processor time of {call}: {}.", told.join("; ")));
     }
 }
 
@@ -160,7 +208,7 @@ fn reading(setup: &Setup, report: &mut Report, label: &str, files: &Files) {
     );
     let mut race = |call: &'static str, rival, words: &[&OsStr]| {
         let ours = files.tool(&[call.as_ref(), disk]);
-        let ways = [Way::new("", &[&ours]), Way::new(rival, &[words])];
+        let ways = [Way::new("the tool", &[&ours]), Way::new(rival, &[words])];
         self::race(setup, report, call, label, &files.out, &ways);
     };
     race("check", "`qemu-img check`", &[qemu, "check".as_ref(), disk]);
@@ -173,7 +221,7 @@ fn reading(setup: &Setup, report: &mut Report, label: &str, files: &Files) {
     );
 }
 
-/// A command that writes, beside a copy of the same bytes and qemu-img's conversion of the same disk, with their sync and without.
+/// A command that writes, beside a copy of the same bytes and qemu-img's conversion of the same disk.
 fn writing(
     setup: &Setup,
     report: &mut Report,
@@ -184,24 +232,28 @@ fn writing(
     let ours = files.tool(words);
     let result = setup.folder.path("result.vmdk");
     let _ = remove_file(&files.out);
-    Way::new("", &[&ours]).time()?;
+    Way::new("the tool", &[&ours]).time()?;
     std::fs::rename(&files.out, &result)?;
     right(files, call, &result)?;
+    let top = if call == "normal" {
+        &files.disk
+    } else {
+        &files.upper
+    };
+    let ways = ways(&ours, &result, top, files.out.as_os_str());
+    race(setup, report, call, label, &files.out, &ways);
+    remove_file(&result)?;
+    Ok(())
+}
 
-    let (out, top) = (
-        files.out.as_os_str(),
-        if call == "normal" {
-            &files.disk
-        } else {
-            &files.upper
-        },
-    );
+/// The tool syncs what it writes. The others do not, and are timed with a sync and without.
+fn ways(ours: &[&OsStr], result: &Path, top: &Path, out: &OsStr) -> [Way; 5] {
     let copy = ["cp".as_ref(), result.as_os_str(), out];
     let [qemu, convert, to, format] = ["qemu-img", "convert", "-O", "vmdk"].map(OsStr::new);
     let convert = [qemu, convert, to, format, top.as_os_str(), out];
     let sync = ["sync".as_ref(), out];
-    let ways = [
-        Way::new("", &[&ours]),
+    [
+        Way::new("the tool", &[ours]),
         Way::new(
             "`cp` of the same bytes, then `sync` of the copy",
             &[&copy, &sync],
@@ -212,10 +264,7 @@ fn writing(
             &[&convert, &sync],
         ),
         Way::new("`qemu-img convert` alone", &[&convert]),
-    ];
-    race(setup, report, call, label, &files.out, &ways);
-    remove_file(&result)?;
-    Ok(())
+    ]
 }
 
 /// A time of a wrong result is no figure.

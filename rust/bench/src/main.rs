@@ -36,7 +36,7 @@ const COMMANDS: &str = "commands";
 type Outcome = Result<(), Box<dyn Error>>;
 
 /// What all measures share.
-struct Setup {
+pub struct Setup {
     /// Small inputs and few rounds: to see that all works.
     quick: bool,
     rounds: u32,

@@ -1,6 +1,6 @@
 //! What was reached: a count for each call and each answer or refusal that it gave.
 
-use std::fmt;
+use std::fmt::{self, Write};
 
 #[derive(Clone, Copy, Debug, PartialEq, Eq)]
 pub enum Call {
@@ -179,7 +179,7 @@ impl fmt::Display for Tally {
                 } else {
                     String::new()
                 };
-                line.push_str(&format!("{cell:>11}"));
+                write!(line, "{cell:>11}")?;
             }
             writeln!(to, "{}", line.trim_end())?;
         }

@@ -8,7 +8,7 @@ use crate::names::{put_bytes, shown};
 use crate::own::Own;
 use crate::print;
 use crate::streams;
-use anhkhovet::{Descriptor, Extent, Header, SECTOR};
+use anhkhovet::{Descriptor, Extent, SECTOR};
 use serde_json::{json, Value};
 use std::io::Read;
 use std::ops::Range;
@@ -31,27 +31,30 @@ fn is_text(start: &[u8]) -> bool {
     }
 }
 
-/// Header and footer decide where the text is: no more is read but the text.
 fn of_file(path: &Path) -> Result<Text, Failure> {
     let layer = Layer::open(path)?;
-    let mut own = Own::new(layer.length() as usize)
-        .map_err(Failure::system(path, "is too long to be mapped"))?;
-    copy_ends(&layer, own.bytes_mut())?;
-    let image = own.bytes();
-    let (part, embedded) = if is_text(image) {
-        (0..layer.length().min(MOST), false)
-    } else {
-        let header = anhkhovet::header(image).map_err(Failure::refused(path))?;
-        (inside(path, image, &header)?, true)
-    };
-    let mut bytes = vec![0; (part.end - part.start) as usize];
-    layer.read(part.start, &mut bytes)?;
+    let mut bytes = part(&layer, 0..layer.length().min(MOST))?;
+    let embedded = !is_text(&bytes);
+    if embedded {
+        // Header and footer decide where the text is: nothing else is read.
+        let mut own = Own::new(layer.length() as usize)
+            .map_err(Failure::system(path, "is too long to be mapped"))?;
+        copy_ends(&layer, own.bytes_mut())?;
+        bytes = part(&layer, inside(path, own.bytes())?)?;
+    }
     layer.same()?;
     Ok(Text { bytes, embedded })
 }
 
+fn part(layer: &Layer, part: Range<u64>) -> Result<Vec<u8>, Failure> {
+    let mut bytes = vec![0; (part.end - part.start) as usize];
+    layer.read(part.start, &mut bytes)?;
+    Ok(bytes)
+}
+
 /// Where the text stands inside an image.
-fn inside(path: &Path, image: &[u8], header: &Header) -> Result<Range<u64>, Failure> {
+fn inside(path: &Path, image: &[u8]) -> Result<Range<u64>, Failure> {
+    let header = anhkhovet::header(image).map_err(Failure::refused(path))?;
     let (first, sectors) = (header.descriptor, header.descriptor_sectors);
     if first == 0 && sectors == 0 {
         return Err(Failure::Lacking(
@@ -158,7 +161,7 @@ impl Text {
         );
         all += "extent        first      sectors access   type           offset name\n";
         for (number, extent) in said.extents.iter().enumerate() {
-            all += &format!(
+            let line = format!(
                 "{number:>6} {:>12} {:>12} {:<8} {:<10} {:>10}",
                 extent.first,
                 extent.sectors,
@@ -166,6 +169,7 @@ impl Text {
                 extent.kind.word(),
                 extent.offset,
             );
+            all += &line;
             if !extent.name.is_empty() {
                 all += " ";
                 all += &shown(self.part(&extent.name));
@@ -188,7 +192,8 @@ pub fn describe(path: &Path, sector: Option<u64>, json: bool) -> Result<(), Fail
     if let Some(sector) = sector {
         let found = anhkhovet::find(&said.extents, sector);
         let extent = found.map_err(Failure::refused(path))?;
-        lines += &format!("sector {sector}: extent {extent}\n");
+        let held = format!("sector {sector}: extent {extent}\n");
+        lines += &held;
         object["sector"] = json!({ "sector": sector, "extent": extent });
     }
     print::answer(json, || lines, || object)

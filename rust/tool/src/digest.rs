@@ -45,14 +45,14 @@ impl Line {
 }
 
 /// Digests of an image's or a chain's sectors.
-pub struct Digests<'a> {
+struct Digests<'a> {
     layers: &'a mut Layers,
-    pub capacity: u64,
-    pub grain_size: u64,
+    capacity: u64,
+    grain_size: u64,
 }
 
 impl<'a> Digests<'a> {
-    pub fn of(layers: &'a mut Layers) -> Result<Digests<'a>, Failure> {
+    fn of(layers: &'a mut Layers) -> Result<Digests<'a>, Failure> {
         let Disk {
             capacity,
             grain_size,
@@ -62,19 +62,6 @@ impl<'a> Digests<'a> {
             capacity,
             grain_size,
         })
-    }
-
-    pub fn same(&self) -> Result<(), Failure> {
-        self.layers.same()
-    }
-
-    /// The line at a sector: of its whole grain, or of itself alone.
-    pub fn line(&mut self, sector: u64, grains: bool) -> Result<Line, Failure> {
-        let sectors = if grains { self.grain(sector) } else { 1 };
-        let piece = Piece::of(self.layers, sector, sectors)?;
-        let files = self.layers.files();
-        let hash = Hasher::new(&files).whole(&piece)?;
-        Ok(Line::of(&piece, piece.first, &hash))
     }
 
     /// Sectors of the grain that begins there, below capacity.

@@ -1,14 +1,15 @@
 //! The lines of a list of digests.
 
 use crate::cli::stream;
-use crate::digest::Line;
 use crate::failure::Failure;
+use crate::hash::Hash;
 use crate::streams;
 use std::fs::{File, OpenOptions};
 use std::io::{self, BufRead, BufReader, Read};
 use std::os::unix::fs::OpenOptionsExt;
 use std::os::unix::io::AsRawFd;
 use std::path::{Path, PathBuf};
+use std::str;
 
 /// Bytes of a line, its end among them: far more than one needs.
 const LONGEST: usize = 1 << 16;
@@ -16,9 +17,16 @@ const LONGEST: usize = 1 << 16;
 /// Some programs begin a text with it.
 const BYTE_ORDER_MARK: &[u8] = b"\xef\xbb\xbf";
 
+/// What a line says: the digest of a sector, or of the packed grain that begins there.
+pub struct Listed {
+    pub sector: u64,
+    pub hash: Hash,
+    pub packed: bool,
+}
+
 /// What a line is, if it is not empty and no comment.
 pub enum Content {
-    Entry(Line),
+    Entry(Listed),
     /// Of another form.
     Malformed,
     /// No line of text: what comes after it is of no use.
@@ -28,6 +36,7 @@ pub enum Content {
 pub struct Lines {
     path: PathBuf,
     from: BufReader<File>,
+    line: Vec<u8>,
     pub number: u64,
 }
 
@@ -42,6 +51,7 @@ impl Lines {
         Ok(Lines {
             path: path.to_path_buf(),
             from: BufReader::new(file.map_err(Failure::system(path, "cannot be opened"))?),
+            line: Vec::new(),
             number: 0,
         })
     }
@@ -49,19 +59,20 @@ impl Lines {
     /// The next line that is not empty and no comment.
     pub fn next(&mut self) -> Result<Option<Content>, Failure> {
         loop {
-            let mut line = Vec::new();
+            self.line.clear();
             (&mut self.from)
                 .take(LONGEST as u64)
-                .read_until(b'\n', &mut line)
+                .read_until(b'\n', &mut self.line)
                 .map_err(Failure::system(&self.path, "cannot be read"))?;
-            if line.is_empty() {
+            if self.line.is_empty() {
                 return Ok(None);
             }
             self.number += 1;
-            if self.number == 1 && line.starts_with(BYTE_ORDER_MARK) {
-                line.drain(..BYTE_ORDER_MARK.len());
+            let mut line = &self.line[..];
+            if self.number == 1 {
+                line = line.strip_prefix(BYTE_ORDER_MARK).unwrap_or(line);
             }
-            if let Some(content) = content(&line) {
+            if let Some(content) = content(line) {
                 return Ok(Some(content));
             }
         }
@@ -89,34 +100,60 @@ fn content(line: &[u8]) -> Option<Content> {
     if line.len() == LONGEST && !line.ends_with(b"\n") {
         return Some(Content::Binary);
     }
-    let text = String::from_utf8_lossy(line);
-    let text = text.trim();
-    if text.is_empty() || text.starts_with('#') {
+    let line = trimmed(line);
+    if line.is_empty() || line.starts_with(b"#") {
         return None;
     }
-    let odd = |character: char| character.is_control() && character != '\t';
-    if text.contains(odd) || text.contains(char::REPLACEMENT_CHARACTER) {
-        return Some(Content::Binary);
-    }
-    Some(entry(text).map_or(Content::Malformed, Content::Entry))
+    Some(match entry(line) {
+        Some(entry) => Content::Entry(entry),
+        None if is_text(line) => Content::Malformed,
+        None => Content::Binary,
+    })
 }
 
-/// Number and digest, parted by spaces or a comma, and maybe the word `packed`.
-fn entry(text: &str) -> Option<Line> {
-    let mut words = text
-        .split(|character: char| character == ',' || character.is_whitespace())
+fn is_text(line: &[u8]) -> bool {
+    let odd = |character: char| character.is_control() && character != '\t';
+    str::from_utf8(line).map_or(false, |line| !line.contains(odd))
+}
+
+/// Without blanks and line ends around it.
+fn trimmed(line: &[u8]) -> &[u8] {
+    let start = line.iter().position(|byte| !byte.is_ascii_whitespace());
+    let end = line.iter().rposition(|byte| !byte.is_ascii_whitespace());
+    start
+        .zip(end)
+        .map_or(&[], |(start, end)| &line[start..=end])
+}
+
+/// Number and digest, parted by blanks or a comma, and maybe the word `packed`.
+fn entry(line: &[u8]) -> Option<Listed> {
+    let mut words = line
+        .split(|byte| matches!(byte, b',' | b' ' | b'\t'))
         .filter(|word| !word.is_empty());
-    let sector = words.next()?.parse().ok()?;
-    let digest = words.next()?.to_ascii_lowercase();
+    let sector = str::from_utf8(words.next()?).ok()?.parse().ok()?;
+    let hash = hash(words.next()?)?;
     let packed = match words.next() {
         None => false,
-        Some("packed") => true,
+        Some(b"packed") => true,
         Some(_) => return None,
     };
-    let formed = digest.len() == 64 && digest.bytes().all(|digit| digit.is_ascii_hexdigit());
-    (formed && words.next().is_none()).then_some(Line {
+    let entry = Listed {
         sector,
-        digest,
+        hash,
         packed,
-    })
+    };
+    Some(entry).filter(|_| words.next().is_none())
+}
+
+/// A digest of 64 hex digits, great or small.
+fn hash(digits: &[u8]) -> Option<Hash> {
+    let mut hash = Hash::default();
+    if digits.len() != 2 * hash.len() {
+        return None;
+    }
+    let value = |digit: u8| char::from(digit).to_digit(16);
+    for (byte, pair) in hash.iter_mut().zip(digits.chunks_exact(2)) {
+        *byte = (value(pair[0])? << 4 | value(pair[1])?) as u8;
+    }
+    Some(hash)
 }

@@ -1,15 +1,18 @@
 //! `digest --list`: an image compared with a list of digests, line by line.
 
+use crate::batch::{Batch, Found, Item, Reader};
+use crate::cores::in_order;
 use crate::difference::{Difference, Fault};
-use crate::digest::{Digests, Line};
 use crate::failure::{Failure, Status};
-use crate::files::Layers;
-use crate::lines::{Content, Lines};
+use crate::files::{same, Layers};
+use crate::hash::Hasher;
+use crate::lines::Listed;
 use crate::named::Named;
 use crate::names;
 use crate::print::{self, Printer};
 use crate::progress::Progress;
-use std::path::{Path, PathBuf};
+use anhkhovet::Disk;
+use std::path::PathBuf;
 
 /// What to compare with, and how.
 pub struct Asked {
@@ -19,10 +22,13 @@ pub struct Asked {
     pub complete: bool,
 }
 
+/// Takes a line that does not hold.
+type Tell<'a> = &'a mut dyn FnMut(&Difference) -> Result<(), Failure>;
+
 /// A comparison and how far it went.
 struct Comparison<'a> {
-    digests: Digests<'a>,
-    grains: bool,
+    asked: &'a Asked,
+    disk: Disk,
     /// Sectors of the disk or, if grains are compared, grains.
     units: u64,
     named: Named,
@@ -31,92 +37,91 @@ struct Comparison<'a> {
 }
 
 impl<'a> Comparison<'a> {
-    fn of(layers: &'a mut Layers, grains: bool) -> Result<Comparison<'a>, Failure> {
-        let digests = Digests::of(layers)?;
-        let unit = if grains { digests.grain_size } else { 1 };
-        let units = (digests.capacity + unit - 1) / unit;
-        Ok(Comparison {
-            digests,
-            grains,
+    fn of(disk: Disk, asked: &'a Asked) -> Comparison<'a> {
+        let unit = if asked.grains { disk.grain_size } else { 1 };
+        let units = (disk.capacity + unit - 1) / unit;
+        Comparison {
+            asked,
+            disk,
             units,
             named: Named::below(units),
             lines: 0,
             failed: 0,
-        })
+        }
     }
 
-    /// Compares with each line, and hands over those that do not hold.
-    fn run(
-        &mut self,
-        list: &Path,
-        tell: &mut dyn FnMut(&Difference) -> Result<(), Failure>,
-    ) -> Result<(), Failure> {
+    /// Compares with each line, on all cores, and hands over in their order those that do not hold.
+    fn run(&mut self, layers: &mut Layers, tell: Tell) -> Result<(), Failure> {
+        let grains = self.asked.grains;
+        let files = layers.files();
         let mut progress = Some(Progress::start("comparing", 0));
-        let mut lines = Lines::open(list)?;
-        while let Some(content) = lines.next()? {
+        let mut reader = Reader::open(layers, self.disk, grains, &self.asked.list)?;
+        in_order(
+            || reader.next(),
+            |batch| {
+                let found = batch.found(&mut Hasher::new(&files), grains)?;
+                Ok((batch, found))
+            },
+            |done: Result<(Batch, Vec<Found>), Failure>| {
+                let (batch, found) = done?;
+                same(&files)?;
+                self.judge(batch, &found, &mut |difference| {
+                    // A bar would stand between the lines.
+                    progress = None;
+                    tell(difference)
+                })
+            },
+        )?;
+        same(&files)
+    }
+
+    fn judge(&mut self, batch: Batch, found: &[Found], tell: Tell) -> Result<(), Failure> {
+        let mut found = found.iter();
+        for Item { line, listed } in batch.items {
             self.lines += 1;
-            let last = matches!(content, Content::Binary);
-            if let Some((sector, fault)) = self.judge(content)? {
+            let (sector, fault) = match listed {
+                Err((sector, fault)) => (sector, Some(fault)),
+                Ok(listed) => {
+                    let fault = found.next().and_then(|found| self.fault(&listed, found));
+                    (Some(listed.sector), fault)
+                }
+            };
+            if let Some(fault) = fault {
                 self.failed += 1;
-                // A bar would stand between the lines.
-                progress = None;
-                self.digests.same()?;
                 tell(&Difference {
-                    line: lines.number,
+                    line,
                     sector,
                     fault,
                 })?;
             }
-            if last {
-                break;
-            }
         }
-        drop(progress);
-        self.digests.same()
-    }
-
-    fn judge(&mut self, content: Content) -> Result<Option<(Option<u64>, Fault)>, Failure> {
-        Ok(match content {
-            Content::Malformed => Some((None, Fault::Form)),
-            Content::Binary => Some((None, Fault::Text)),
-            Content::Entry(listed) => {
-                let fault = self.fault(&listed)?;
-                fault.map(|fault| (Some(listed.sector), fault))
-            }
-        })
+        Ok(())
     }
 
     /// Why a listed line does not hold, or nothing.
-    fn fault(&mut self, listed: &Line) -> Result<Option<Fault>, Failure> {
-        let (sector, size) = (listed.sector, self.digests.grain_size);
-        if sector >= self.digests.capacity {
-            return Ok(Some(Fault::Past(self.digests.capacity - 1)));
-        }
-        let first = sector - sector % size;
-        if self.grains && sector != first {
-            return Ok(Some(Fault::Inside(first)));
-        }
-        let found = self.digests.line(sector, self.grains)?;
+    fn fault(&mut self, listed: &Listed, found: &Found) -> Option<Fault> {
+        let sector = listed.sector;
         let packed = listed.packed && found.packed;
-        Ok(if packed && sector != found.sector {
-            Some(Fault::Inside(found.sector))
+        if packed && sector != found.first {
+            Some(Fault::Inside(found.first))
         } else if !self.name(sector, packed) {
             Some(Fault::Twice)
         } else if found.packed && !listed.packed {
-            Some(Fault::Packed(found.sector))
+            Some(Fault::Packed(found.first))
         } else if listed.packed && !found.packed {
             Some(Fault::Open)
-        } else if listed.digest != found.digest {
-            Some(Fault::Digest(listed.digest.clone(), found.digest))
+        } else if listed.hash != found.hash {
+            let [listed, found] = [listed.hash, found.hash].map(|hash| names::hex(&hash));
+            Some(Fault::Digest(listed, found))
         } else {
             None
-        })
+        }
     }
 
     /// Whether a sector was not named before. The line of a packed grain names all sectors of it.
     fn name(&mut self, sector: u64, packed: bool) -> bool {
-        let size = self.digests.grain_size;
-        if self.grains {
+        let size = self.disk.grain_size;
+        if self.asked.grains {
             return self.named.mark(sector / size);
         }
         let new = self.named.mark(sector);
@@ -133,19 +138,19 @@ impl<'a> Comparison<'a> {
         self.units - self.named.count
     }
 
-    fn holds(&self, asked: &Asked) -> bool {
-        self.failed == 0 && self.lines > 0 && !(asked.complete && self.left_out() > 0)
+    fn holds(&self) -> bool {
+        self.failed == 0 && self.lines > 0 && !(self.asked.complete && self.left_out() > 0)
     }
 
     fn unit(&self) -> &'static str {
-        if self.grains {
+        if self.asked.grains {
             "grain"
         } else {
             "sector"
         }
     }
 
-    fn summary(&self, asked: &Asked) -> String {
+    fn summary(&self) -> String {
         let (lines, failed, units, unit) = (self.lines, self.failed, self.units, self.unit());
         let compared = match failed {
             _ if lines == 0 => "there is no line to compare with".to_string(),
@@ -154,24 +159,28 @@ impl<'a> Comparison<'a> {
         };
         let left = match self.left_out() {
             0 => format!("none of the disk's {units} {unit}s is left out"),
-            left if asked.complete => {
-                format!("{left} of the disk's {units} {unit}s are left out, so it is not complete")
-            }
+            1 => format!("1 of the disk's {units} {unit}s is left out"),
             left => format!("{left} of the disk's {units} {unit}s are left out"),
         };
-        format!("{}: {compared}; {left}\n", names::name(&asked.list))
+        let incomplete = if self.asked.complete && self.left_out() > 0 {
+            ", so it is not complete"
+        } else {
+            ""
+        };
+        let list = names::name(&self.asked.list);
+        format!("{list}: {compared}; {left}{incomplete}\n")
     }
 }
 
 pub fn compare(paths: &[PathBuf], asked: &Asked, json: bool) -> Result<(), Failure> {
     let mut layers = Layers::open(paths)?;
-    let mut comparison = Comparison::of(&mut layers, asked.grains)?;
+    let mut comparison = Comparison::of(layers.disk()?, asked);
     if json {
         print::members(|object| {
             object.list("differences", |take| {
-                comparison.run(&asked.list, &mut |difference| take(&difference.object()))
+                comparison.run(&mut layers, &mut |difference| take(&difference.object()))
             })?;
-            object.member("agree", &comparison.holds(asked))?;
+            object.member("agree", &comparison.holds())?;
             object.member("compared", &comparison.lines)?;
             object.member("disk", &comparison.units)?;
             object.member("left_out", &comparison.left_out())?;
@@ -180,13 +189,13 @@ pub fn compare(paths: &[PathBuf], asked: &Asked, json: bool) -> Result<(), Failu
     } else {
         let mut printer = Printer::new();
         let name = names::name(&asked.list);
-        comparison.run(&asked.list, &mut |difference| {
+        comparison.run(&mut layers, &mut |difference| {
             printer.text(&format!("{name}: {}\n", difference.text()))
         })?;
-        printer.text(&comparison.summary(asked))?;
+        printer.text(&comparison.summary())?;
         printer.done()?;
     }
-    if comparison.holds(asked) {
+    if comparison.holds() {
         Ok(())
     } else {
         Err(Failure::Told(Status::Differs))

@@ -2,6 +2,7 @@
 //!
 //! The library is lent memory of the tool's own, into which what decides is copied, and the tool tells its answers.
 
+mod batch;
 mod check;
 mod cli;
 mod commands;
@@ -9,6 +10,7 @@ mod cores;
 mod describe;
 mod difference;
 mod digest;
+mod entries;
 mod failure;
 mod files;
 mod folder;
@@ -16,6 +18,7 @@ mod frame;
 mod guard;
 mod hash;
 mod json;
+mod kept;
 mod layer;
 mod lent;
 mod lines;
@@ -36,6 +39,7 @@ mod source;
 mod streams;
 mod worker;
 mod write;
+mod writeback;
 
 use cli::{Stop, Task};
 use failure::{Failure, Status};

@@ -13,7 +13,7 @@ use std::str;
 
 /// What Unicode says is not drawn (Default_Ignorable_Code_Point), and what parts lines: it can turn the order of a text, or
 /// hide.
-const UNDRAWN: [(char, char); 18] = [
+const UNDRAWN: [(char, char); 17] = [
     ('\u{ad}', '\u{ad}'),
     ('\u{34f}', '\u{34f}'),
     ('\u{61c}', '\u{61c}'),
@@ -31,7 +31,6 @@ const UNDRAWN: [(char, char); 18] = [
     ('\u{1bca0}', '\u{1bca3}'),
     ('\u{1d173}', '\u{1d17a}'),
     ('\u{e0000}', '\u{e0fff}'),
-    ('\u{f0000}', '\u{10ffff}'),
 ];
 
 /// Whether a character is not to reach a terminal as it is.

@@ -3,14 +3,19 @@
 use crate::cli::Target;
 use crate::failure::Failure;
 use crate::guard::{Doomed, Watch};
+use crate::kept::keep;
 use crate::mapping::Mapping;
 use crate::place::Place;
+use crate::signals;
+use crate::writeback::Writeback;
 use std::ffi::CString;
-use std::fs::{File, Metadata, Permissions};
+use std::fs::File;
 use std::io::{self, Write};
-use std::os::unix::fs::{MetadataExt, PermissionsExt};
+use std::mem::zeroed;
 use std::os::unix::io::AsRawFd;
 use std::path::PathBuf;
+
+const UNWRITTEN: &str = "cannot be written, so there is no output";
 
 /// A file under a name of its own, which goes unless it is finished.
 pub struct Output {
@@ -26,6 +31,7 @@ pub struct Mapped {
     output: Output,
     pub map: Mapping,
     _watch: Watch,
+    _writeback: Writeback,
 }
 
 impl Output {
@@ -33,14 +39,9 @@ impl Output {
     pub fn create(target: &Target, inputs: &[PathBuf]) -> Result<Output, Failure> {
         let place = Place::of(target, inputs)?;
         // Not for a moment is it open to more people than what it replaces.
-        let mode = place
-            .replaced()?
-            .map_or(0o666, |facts| facts.mode() & 0o777);
-        let unmade = || Failure::system(&place.path, "cannot be created");
-        let part = place.part_name().map_err(unmade())?;
-        // Before the file is there: a signal in between would leave it.
-        let doomed = Doomed::new(place.folder.number(), part.clone());
-        let file = place.folder.create(&part, mode).map_err(unmade())?;
+        let mode = place.replaced()?.map_or(0o666, |_| 0o600);
+        let (file, part, doomed) = signals::held_back(|| begin(&place, mode))
+            .map_err(Failure::system(&place.path, "cannot be created"))?;
         Ok(Output {
             doomed: Some(doomed),
             place,
@@ -62,7 +63,12 @@ impl Output {
             .map_err(Failure::system(&self.place.path, "cannot be read"))
     }
 
-    /// Room on the disk, where the file system can promise it; else only the length.
+    /// Whether nobody misses so many bytes on the disk for a while.
+    pub fn is_little(&self, length: u64) -> bool {
+        free(&self.file).map_or(false, |free| length <= free / 16)
+    }
+
+    /// Gives it this length, and room on the disk where the file system can promise that.
     pub fn reserve(&self, length: u64) -> Result<(), Failure> {
         let path = &self.place.path;
         reserve(&self.file, length).map_err(|error| match error.raw_os_error() {
@@ -72,30 +78,24 @@ impl Output {
                     "the disk is full: it has no room for {length} bytes, so there is no output"
                 ),
             ),
-            _ => Failure::System(
-                path.clone(),
-                "cannot be written, so there is no output",
-                error,
-            ),
+            _ => Failure::System(path.clone(), UNWRITTEN, error),
         })
     }
 
-    /// As memory of that length, for which there is room.
+    /// As memory, of the length that it has.
     pub fn map(self, length: u64) -> Result<Mapped, Failure> {
         let path = &self.place.path;
         let map = usize::try_from(length)
             .map_err(|_| io::ErrorKind::OutOfMemory.into())
             .and_then(|length| Mapping::shared(&self.file, length))
-            .map_err(Failure::system(
-                path,
-                "cannot be mapped, so there is no output",
-            ))?;
+            .map_err(Failure::system(path, UNWRITTEN))?;
         let full = Failure::unfit(
             path,
             "the disk is full or failed while this was written, so there is no output",
         );
         let watch = Watch::new(map.start(), map.length(), &full.to_string());
         Ok(Mapped {
+            _writeback: Writeback::of(self.file()?),
             output: self,
             map,
             _watch: watch,
@@ -108,7 +108,7 @@ impl Output {
         if self.place.force {
             // It may be another one by now.
             if let Some(replaced) = self.place.replaced()? {
-                keep(&self.file, &replaced).map_err(Failure::system(
+                keep(&self.file, &replaced, &path).map_err(Failure::system(
                     &path,
                     "cannot get the mode of what it replaces",
                 ))?;
@@ -155,8 +155,27 @@ impl Drop for Output {
     }
 }
 
+/// A new file, its name, and the promise to remove it. No signal may come between: the file would stay.
+fn begin(place: &Place, mode: u32) -> io::Result<(File, CString, Doomed)> {
+    loop {
+        let part = place.part_name()?;
+        match place.folder.create(&part, mode) {
+            Ok(file) => {
+                let doomed = Doomed::new(place.folder.number(), part.clone());
+                return Ok((file, part, doomed));
+            }
+            // Left by a run that was killed, whose number has come round again: the next name is free.
+            Err(error) if error.kind() == io::ErrorKind::AlreadyExists => {}
+            Err(error) => return Err(error),
+        }
+    }
+}
+
 fn reserve(file: &File, length: u64) -> io::Result<()> {
     let long = libc::off_t::try_from(length).map_err(|_| io::ErrorKind::InvalidInput)?;
+    if free(file).map_or(false, |free| free < length) {
+        return Err(io::Error::from_raw_os_error(libc::ENOSPC));
+    }
     // SAFETY: a plain call on an open file.
     if unsafe { libc::fallocate(file.as_raw_fd(), 0, 0, long) } == 0 {
         return Ok(());
@@ -168,19 +187,15 @@ fn reserve(file: &File, length: u64) -> io::Result<()> {
     }
 }
 
-/// Gives a file the mode of an old one, and its owner and group where the system allows that.
-fn keep(file: &File, old: &Metadata) -> io::Result<()> {
-    let new = file.metadata()?;
-    let alike = (new.uid(), new.gid()) == (old.uid(), old.gid());
-    // SAFETY: a plain call on an open file.
-    let hand = |user, group| unsafe { libc::fchown(file.as_raw_fd(), user, group) } == 0;
-    let whole = alike || hand(old.uid(), old.gid());
-    if !whole {
-        hand(libc::uid_t::MAX, old.gid());
-    }
-    // Bits that lend the owner's rights are for that owner alone.
-    let mode = old.mode() & if whole { 0o7777 } else { 0o777 };
-    file.set_permissions(Permissions::from_mode(mode))
+/// The bytes that are free, where the file system knows. Asking for more would take all of them for a moment, from everybody.
+fn free(file: &File) -> Option<u64> {
+    // SAFETY: the facts are written over one struct of theirs.
+    let (status, facts) = unsafe {
+        let mut facts: libc::statvfs64 = zeroed();
+        (libc::fstatvfs64(file.as_raw_fd(), &mut facts), facts)
+    };
+    let known = status == 0 && facts.f_blocks > 0;
+    known.then(|| facts.f_bfree.saturating_mul(facts.f_frsize))
 }
 
 impl Mapped {

@@ -31,7 +31,7 @@ const SHORT: usize = 200;
 fn last_name(path: &Path) -> Option<&OsStr> {
     let name = path.file_name()?;
     let whole = path.as_os_str().as_bytes();
-    whole.ends_with(name.as_bytes()).then(|| name)
+    whole.ends_with(name.as_bytes()).then_some(name)
 }
 
 fn identity(facts: &Metadata) -> (u64, u64) {

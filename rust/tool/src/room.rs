@@ -1,16 +1,22 @@
 //! How long the result of `normal` and `collapse` is: docs/COLLAPSE.md has the layout.
 
+use crate::cores;
+use crate::failure::Failure;
 use anhkhovet::{Disk, Source, SECTOR};
+use std::ops::Range;
+
+/// Grains that are looked up in one go.
+const BATCH: u64 = 1 << 16;
+
+/// A quotient, rounded up.
+fn up(number: u64, by: u64) -> u64 {
+    (number + by - 1) / by
+}
 
 /// Images that are accepted and alike, lowest first.
 pub struct Room<'a> {
     pub disk: Disk,
     pub images: &'a [&'a [u8]],
-}
-
-/// A quotient, rounded up.
-fn up(number: u64, by: u64) -> u64 {
-    (number + by - 1) / by
 }
 
 impl Room<'_> {
@@ -33,18 +39,34 @@ impl Room<'_> {
         self.length(self.grains().min(held.sum()))
     }
 
-    /// The length itself, by a lookup a grain: seconds for a disk of a tebibyte.
-    pub fn exact(&self) -> u64 {
-        let size = self.disk.grain_size;
-        let stored = (0..self.grains()).filter(|grain| self.stored(grain * size));
-        self.length(stored.count() as u64)
+    /// The length itself, by a lookup a grain: that takes a second for a disk of a tebibyte.
+    pub fn counted(&self) -> Result<u64, Failure> {
+        let grains = self.grains();
+        let mut batches = (0..up(grains, BATCH)).map(|batch| {
+            let first = batch * BATCH;
+            first..grains.min(first + BATCH)
+        });
+        let mut stored = 0;
+        cores::in_order(
+            || Ok(batches.next()),
+            |batch| self.stored(batch),
+            |count| {
+                stored += count;
+                Ok(())
+            },
+        )?;
+        Ok(self.length(stored))
     }
 
-    /// Whether the topmost image that has the sector at all stores it.
-    fn stored(&self, sector: u64) -> bool {
-        let images = self.images.iter().rev();
-        let mut sources = images.map(|image| anhkhovet::lookup(image, sector));
-        let topmost = sources.find(|source| *source != Ok(Source::Absent));
-        matches!(topmost, Some(Ok(Source::Stored { .. })))
+    /// How many of these grains the topmost image that has them at all stores.
+    fn stored(&self, grains: Range<u64>) -> u64 {
+        let stored = |grain: &u64| {
+            let sector = grain * self.disk.grain_size;
+            let images = self.images.iter().rev();
+            let mut sources = images.map(|image| anhkhovet::lookup(image, sector));
+            let topmost = sources.find(|source| *source != Ok(Source::Absent));
+            matches!(topmost, Some(Ok(Source::Stored { .. })))
+        };
+        grains.filter(stored).count() as u64
     }
 }

@@ -141,7 +141,8 @@ pub fn install() -> io::Result<()> {
             attend(signal)?;
         }
     }
-    hold_back();
+    // The C library keeps these for itself and lets nobody catch them. They wait for ever: the tool uses neither.
+    block(libc::SIG_BLOCK, bit(32) | bit(33));
     Ok(())
 }
 
@@ -165,17 +166,27 @@ fn attend(signal: c_int) -> io::Result<()> {
     }
 }
 
-/// The C library keeps signals 32 and 33 for itself and lets nobody catch them. Here they wait for ever: the tool uses neither.
-fn hold_back() {
-    let signals = bit(32) | bit(33);
-    // SAFETY: the mask is of the length that is told, and no old one is asked for. Threads started later have the same mask.
+/// Has this thread block signals, a bit each, in one of the ways that the system knows; gives those that were blocked before. The C
+/// library's own call would leave out two that it keeps for itself.
+fn block(how: c_int, signals: u64) -> u64 {
+    let mut before = 0;
+    // SAFETY: both masks are of the length that is told.
     unsafe {
         libc::syscall(
             libc::SYS_rt_sigprocmask,
-            libc::SIG_BLOCK,
+            how,
             &signals as *const u64,
-            ptr::null::<u64>(),
+            &mut before as *mut u64,
             8usize,
         )
     };
+    before
+}
+
+/// Does something that no signal may interrupt; one that comes waits. Signals are all handled by the thread that this is called on.
+pub fn held_back<T>(work: impl FnOnce() -> T) -> T {
+    let before = block(libc::SIG_BLOCK, u64::MAX);
+    let done = work();
+    block(libc::SIG_SETMASK, before);
+    done
 }

@@ -23,7 +23,7 @@ fn refusal(asked: Result<u64, anhkhovet::Refusal>) -> Option<anhkhovet::Refusal>
 }
 
 /// An output for what is made of these images, lowest first, which are not refused.
-fn room(output: Output, images: &[&Layers]) -> Result<Mapped, Failure> {
+fn mapped(output: Output, images: &[&Layers]) -> Result<Mapped, Failure> {
     let bytes: Vec<&[u8]> = images.iter().map(|image| image.bytes(0)).collect();
     let header = anhkhovet::header(bytes[0]).map_err(Failure::refused(images[0].path(0)))?;
     let room = Room {
@@ -31,12 +31,12 @@ fn room(output: Output, images: &[&Layers]) -> Result<Mapped, Failure> {
         images: &bytes,
     };
     let most = room.most();
-    if output.reserve(most).is_ok() {
+    if output.is_little(most) && output.reserve(most).is_ok() {
         return output.map(most);
     }
-    let exact = room.exact();
-    output.reserve(exact)?;
-    output.map(exact)
+    let length = room.counted()?;
+    output.reserve(length)?;
+    output.map(length)
 }
 
 fn told(target: &Target, length: u64, json: bool) -> Result<(), Failure> {
@@ -60,7 +60,7 @@ pub fn normal(path: &Path, target: &Target, json: bool) -> Result<(), Failure> {
         image.same()?;
         return Err(Failure::refused(path)(why));
     }
-    let mut mapped = room(output, &[&image])?;
+    let mut mapped = mapped(output, &[&image])?;
     let written = lent::normal(&Lent::of(&image)?, &mut mapped.map);
     image.same()?;
     let length = written.map_err(Failure::refused(path))?;
@@ -106,7 +106,7 @@ fn judged(images: &mut [Layers]) -> Result<(), Failure> {
 
 /// Two images in one, which is not finished.
 fn merged(lower: &Layers, upper: &Layers, output: Output) -> Result<(Output, u64), Failure> {
-    let mut mapped = room(output, &[lower, upper])?;
+    let mut mapped = mapped(output, &[lower, upper])?;
     let written = lent::collapse(&Lent::of(lower)?, &Lent::of(upper)?, &mut mapped.map);
     lower.same()?;
     upper.same()?;

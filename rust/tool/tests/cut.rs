@@ -7,7 +7,7 @@ mod held;
 mod image;
 
 use common::{tool, Folder, Ran};
-use image::Image;
+use image::{put_back, Image};
 use std::io::Read;
 use std::process::{Child, Stdio};
 
@@ -95,6 +95,20 @@ fn written_to_at_the_same_length() {
     no_wrong_line(&ran);
 }
 
+/// The time of modification is its owner's to set, that of the last change is not.
+#[test]
+fn written_to_with_the_old_time_put_back() {
+    let folder = Folder::new();
+    let image = Image::full(&folder.at("disk"), CAPACITY);
+    let facts = image.file.metadata().expect("facts");
+    let digest = begun(&folder, &["digest", "disk"]);
+    image.put(facts.len() - 1, b"x");
+    put_back(&image.file, &facts);
+    let ran = ended(digest);
+    ran.ill("disk: the file changed while it was read");
+    no_wrong_line(&ran);
+}
+
 /// A reader that goes away, as `head` does, ends the tool with no word.
 #[test]
 fn nobody_reads_on() {
@@ -109,6 +123,8 @@ fn nobody_reads_on() {
 mod writing {
     use super::*;
     use held::{held, signal, BIG};
+    use std::fs::File;
+    use std::thread::yield_now;
 
     fn ran(child: Child) -> Ran {
         Ran::of(child.wait_with_output().expect("it ends"))
@@ -149,6 +165,26 @@ mod writing {
         image.put(512 * image.start, b"x");
         signal(&child, libc::SIGCONT);
         ran(child).ill("disk: the file changed while it was read");
+        assert_eq!(folder.names(), ["disk"]);
+    }
+
+    /// As a disk that fails under the output, which cannot be had here.
+    #[test]
+    fn an_output_that_is_cut() {
+        let folder = Folder::new();
+        Image::full(&folder.at("disk"), BIG);
+        let child = held(&folder, &["--json", "normal", "disk", "-o", "out"]);
+        let part = folder.at(&folder.names()[0]);
+        let part = File::options().write(true).open(part).expect("the part");
+        signal(&child, libc::SIGCONT);
+        // It gets its length before it is written.
+        while part.metadata().expect("facts").len() == 0 {
+            yield_now();
+        }
+        part.set_len(0).expect("a length");
+        let ran = ran(child);
+        ran.ill("out: the disk is full or failed while this was written");
+        assert!(ran.text().starts_with("{\"failed\":\"out: the disk"));
         assert_eq!(folder.names(), ["disk"]);
     }
 

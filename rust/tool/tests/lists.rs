@@ -229,3 +229,69 @@ fn lines_of_no_form_and_past_the_end_are_told_and_the_rest_compared() {
         &["list: there is no line to compare with; 2048 of the disk's 2048 sectors are left out"],
     );
 }
+
+/// More lines than are worked on at once, in disorder: what differs is told in the list's order.
+#[test]
+fn a_long_list_in_any_order() {
+    let folder = Folder::new().with(&FILES);
+    let all = printed(&folder, FILES[0], &[]);
+    let mut lines: Vec<String> = all.lines().map(str::to_string).collect();
+    lines.reverse();
+    lines.rotate_left(700);
+    compare(
+        &folder,
+        FILES[0],
+        lines.join("\n").as_bytes(),
+        &["--complete"],
+    )
+    .well();
+
+    let mut wanted = Vec::new();
+    for number in (0..lines.len()).step_by(97) {
+        let (sector, _) = lines[number].split_once(' ').expect("a digest");
+        wanted.push(format!(
+            "list: line {}: sector {sector} differs",
+            number + 1
+        ));
+        lines[number] = format!("{sector} {}", "1".repeat(64));
+    }
+    let twice = lines.clone();
+    lines.extend(twice);
+    let ran = compare(&folder, FILES[0], lines.join("\n").as_bytes(), &[]);
+    assert_eq!(ran.status, Some(3));
+    let text = ran.text();
+    let told: Vec<&str> = text.lines().collect();
+    assert_eq!(told.len(), wanted.len() + 2048 + 1);
+    for (told, wanted) in told.iter().zip(&wanted) {
+        assert!(told.starts_with(wanted), "{told}, not {wanted}");
+    }
+    for (number, told) in told[wanted.len()..].iter().take(2048).enumerate() {
+        let start = format!("list: line {}: sector ", 2048 + number + 1);
+        assert!(
+            told.starts_with(&start) && told.ends_with("a line before"),
+            "{told}"
+        );
+    }
+}
+
+/// Sectors in a row of one packed grain, each named as if it were open.
+#[test]
+fn each_sector_of_a_packed_grain() {
+    let folder = Folder::new().with(&FILES);
+    let list: String = (127..257)
+        .map(|sector| format!("{sector} {ZEROS}\n"))
+        .collect();
+    let ran = compare(&folder, FILES[1], list.as_bytes(), &[]);
+    assert_eq!(ran.status, Some(3));
+    let text = ran.text();
+    let told: Vec<&str> = text.lines().collect();
+    assert_eq!(told.len(), 128 + 1, "{text}");
+    for (number, told) in told.iter().take(128).enumerate() {
+        let start = format!(
+            "list: line {}: sector {} is packed",
+            number + 2,
+            number + 128
+        );
+        assert!(told.starts_with(&start), "{told}");
+    }
+}

@@ -1,12 +1,10 @@
-//! What is no plain file: told at once, by every command, and never waited for.
+//! Names that lead elsewhere or nowhere, as the only image and as one of several: told at once, and nothing is left.
 
 mod common;
 
 use common::{run_soon, Folder};
 use std::fs;
 use std::os::unix::fs::symlink;
-use std::os::unix::net::UnixListener;
-use std::process::Command;
 
 const IMAGE: &str = "tool-base.vmdk";
 
@@ -54,40 +52,12 @@ fn folder() -> Folder {
 }
 
 #[test]
-fn a_named_pipe() {
-    let folder = folder();
-    let made = Command::new("mkfifo").arg(folder.at("odd")).status();
-    assert!(made.expect("mkfifo").success());
-    told(&folder, "odd", "is a named pipe and not a plain file");
-}
-
-#[test]
-fn a_folder() {
-    let folder = folder();
-    fs::create_dir(folder.at("odd")).expect("a folder");
-    told(&folder, "odd", "is a folder and not a plain file");
-}
-
-#[test]
-fn a_socket() {
-    let folder = folder();
-    let _socket = UnixListener::bind(folder.at("odd")).expect("a socket");
-    told(&folder, "odd", "is a socket and not a plain file");
-}
-
-#[test]
-fn devices() {
-    let folder = folder();
-    for device in ["/dev/zero", "/dev/null", "/dev/full", "/dev/tty"] {
-        told(&folder, device, "is a device and not a plain file");
-    }
-}
-
-#[test]
 fn links_are_followed_to_what_they_name() {
     let folder = folder();
-    symlink("/dev/zero", folder.at("odd")).expect("a link");
-    told(&folder, "odd", "is a device and not a plain file");
+    symlink("/dev/tty", folder.at("device")).expect("a link");
+    told(&folder, "device", "is a device and not a plain file");
+    symlink("..", folder.at("above")).expect("a link");
+    told(&folder, "above", "is a folder and not a plain file");
     symlink("nowhere", folder.at("dangling")).expect("a link");
     told(&folder, "dangling", "cannot be opened: No such file");
     symlink("around", folder.at("around")).expect("a link");
@@ -97,7 +67,7 @@ fn links_are_followed_to_what_they_name() {
 }
 
 #[test]
-fn a_folder_that_is_none() {
+fn names_that_lead_nowhere() {
     let folder = folder();
     told(
         &folder,

@@ -120,3 +120,31 @@ fn the_ends_of_a_big_disk() {
         ],
     );
 }
+
+/// More than a pipe holds is written first, so that the tool has opened the image by then.
+#[test]
+fn an_image_that_changes_while_its_list_is_read() {
+    let sectors = 1 << 14;
+    let folder = Folder::new();
+    let image = Image::new(&folder.at("disk"), sectors);
+    let mut child = tool(folder.path())
+        .args(["digest", "disk", "--list", "-", "--json"])
+        .stdin(Stdio::piped())
+        .stdout(Stdio::piped())
+        .stderr(Stdio::piped())
+        .spawn()
+        .expect("the tool starts");
+    let list: String = (0..sectors)
+        .map(|sector| format!("{sector} {ZEROS}\n"))
+        .collect();
+    let mut input = child.stdin.take().expect("a pipe");
+    input.write_all(list.as_bytes()).expect("written");
+    image.put(512 * image.start - 1, b"x");
+    input.write_all(b"0 differs\n").expect("written");
+    drop(input);
+    let ran = Ran::of(child.wait_with_output().expect("it ends"));
+    ran.ill("disk: the file changed while it was read");
+    assert!(ran
+        .text()
+        .starts_with("{\"failed\":\"disk: the file changed"));
+}

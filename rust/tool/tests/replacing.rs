@@ -28,7 +28,7 @@ fn facts(folder: &Folder, name: &str) -> Metadata {
 }
 
 fn give(folder: &Folder, name: &str, user: u32) {
-    let path = CString::new(folder.at(name).as_os_str().as_bytes()).expect("a path");
+    let path = path_of(folder, name);
     // SAFETY: a string that ends in a zero byte.
     let status = unsafe { libc::chown(path.as_ptr(), user, user) };
     assert_eq!(status, 0, "chown");
@@ -83,6 +83,77 @@ fn an_owner_that_cannot_stay_takes_its_rights_along() {
     let facts = facts(&folder, "out");
     assert_eq!(facts.uid(), NOBODY);
     assert_eq!(facts.permissions().mode() & 0o7777, 0o777);
+}
+
+const ACCESS_LIST: &[u8] = b"system.posix_acl_access\0";
+const LIST_FOR_NEW_FILES: &[u8] = b"system.posix_acl_default\0";
+
+/// An access list as the system stores it: the owner may all, user 7 may read and write, the group nothing.
+fn list() -> Vec<u8> {
+    let entries = [
+        (1u16, 7u16, u32::MAX),
+        (2, 6, 7),
+        (4, 0, u32::MAX),
+        (16, 6, u32::MAX),
+        (32, 0, u32::MAX),
+    ];
+    let mut list = 2u32.to_le_bytes().to_vec();
+    for (tag, rights, who) in entries {
+        list.extend(tag.to_le_bytes());
+        list.extend(rights.to_le_bytes());
+        list.extend(who.to_le_bytes());
+    }
+    list
+}
+
+fn path_of(folder: &Folder, name: &str) -> CString {
+    CString::new(folder.at(name).as_os_str().as_bytes()).expect("a path")
+}
+
+fn put_list(folder: &Folder, name: &str, kind: &[u8]) -> bool {
+    let (path, list) = (path_of(folder, name), list());
+    // SAFETY: strings that end in a zero byte, and bytes of the length that is told.
+    let status = unsafe {
+        let (kind, bytes) = (kind.as_ptr().cast(), list.as_ptr().cast());
+        libc::setxattr(path.as_ptr(), kind, bytes, list.len(), 0)
+    };
+    status == 0
+}
+
+fn list_of(folder: &Folder, name: &str) -> Option<Vec<u8>> {
+    let mut list = vec![0; 4096];
+    let path = path_of(folder, name);
+    // SAFETY: strings that end in a zero byte, and room of the length that is told.
+    let length = unsafe {
+        let (kind, bytes) = (ACCESS_LIST.as_ptr().cast(), list.as_mut_ptr().cast());
+        libc::getxattr(path.as_ptr(), kind, bytes, list.len())
+    };
+    list.truncate(usize::try_from(length).ok()?);
+    Some(list)
+}
+
+/// With the mode alone, the group could write what it could not even read.
+#[test]
+fn an_access_list_stays_and_none_comes_from_the_folder() {
+    for words in writers() {
+        let folder = Folder::new().with(&CHAIN);
+        for out in ["with", "without"] {
+            fs::write(folder.at(out), "old").expect("written");
+            mode(&folder, out, 0o640);
+        }
+        let known = put_list(&folder, "with", ACCESS_LIST);
+        if !known || !put_list(&folder, ".", LIST_FOR_NEW_FILES) {
+            println!("NOT RUN: access lists, which the file system here does not know");
+            return;
+        }
+        for (out, kept) in [("with", Some(list())), ("without", None)] {
+            run(folder.path(), &[&words[..], &[out]].concat()).well();
+            assert_eq!(list_of(&folder, out), kept);
+            let facts = facts(&folder, out);
+            let bits = if kept.is_some() { 0o760 } else { 0o640 };
+            assert_eq!(facts.permissions().mode() & 0o7777, bits);
+        }
+    }
 }
 
 #[test]

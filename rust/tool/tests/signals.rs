@@ -6,12 +6,12 @@ mod held;
 #[path = "common/image.rs"]
 mod image;
 
-use common::{emulated, run, tool, Folder};
+use common::{emulated, names, run, tool, Folder, TOOL};
 use held::{held, hold, signal, BIG};
 use image::Image;
 use std::fs;
 use std::os::unix::process::{CommandExt, ExitStatusExt};
-use std::process::{Child, ExitStatus, Stdio};
+use std::process::{Child, Command, ExitStatus, Stdio};
 use std::thread::sleep;
 use std::time::Duration;
 
@@ -117,6 +117,49 @@ fn a_second_signal_leaves_nothing() {
     }
 }
 
+/// The name of the folder may become another one, or be gone, before the end.
+#[test]
+fn a_folder_that_is_moved_meanwhile() {
+    let folder = Folder::new();
+    Image::full(&folder.at("disk"), BIG);
+    for number in [libc::SIGTERM, libc::SIGCONT] {
+        fs::create_dir(folder.at("in")).expect("a folder");
+        let mut command = tool(folder.path());
+        command.args(["normal", "disk", "-o", "in/out"]);
+        let child = hold(&folder.at("in"), &mut command);
+        fs::rename(folder.at("in"), folder.at("moved")).expect("moved");
+        let status = sent(child, &[number]);
+        let left = names(&folder.at("moved"));
+        if number == libc::SIGTERM {
+            assert_eq!((status.signal(), left.len()), (Some(number), 0));
+        } else {
+            assert!(status.success() && left == ["out"], "{status}: {left:?}");
+        }
+        fs::remove_dir_all(folder.at("moved")).expect("removed");
+    }
+}
+
+/// A run that was killed may have left its part under the name that this one would take first.
+#[test]
+fn a_part_of_another_run_is_left_alone() {
+    let folder = Folder::new().with(&CHAIN);
+    let mut command = Command::new("sh");
+    // The shell's number is the tool's, which takes its place.
+    let script = "echo theirs >.out.$$-0.part; exec \"$0\" normal tool-base.vmdk -o out";
+    command
+        .args(["-c", script, TOOL])
+        .current_dir(folder.path());
+    if emulated() {
+        println!("NOT RUN: a part of another run, since the emulator starts the tool");
+        return;
+    }
+    assert!(command.output().expect("a shell").status.success());
+    let left = folder.names();
+    assert!(left[0].ends_with("-0.part") && left[1] == "out", "{left:?}");
+    let theirs = fs::read(folder.at(&left[0])).expect("their part");
+    assert_eq!(theirs, b"theirs\n");
+}
+
 /// A command that was told to ignore a signal before the tool's start.
 fn deaf(folder: &Folder, number: libc::c_int) -> Child {
     let mut command = tool(folder.path());
@@ -128,7 +171,7 @@ fn deaf(folder: &Folder, number: libc::c_int) -> Child {
             Ok(())
         });
     }
-    hold(folder, &mut command)
+    hold(folder.path(), &mut command)
 }
 
 #[test]

@@ -4,11 +4,11 @@ mod common;
 #[path = "common/image.rs"]
 mod image;
 
-use common::{emulated, run, tool, Folder, Ran};
+use common::{emulated, run, tool, Folder, Ran, TOOL};
 use image::Image;
 use std::fs::{self, File};
 use std::io::Write;
-use std::process::Stdio;
+use std::process::{Command, Stdio};
 use std::time::{Duration, Instant};
 
 const TEXT: &str = "# Disk DescriptorFile\nversion=1\nCID=1234abcd\nparentCID=ffffffff\n\
@@ -42,6 +42,22 @@ fn a_text_of_a_tebibyte_is_refused_at_once() {
         run(folder.path(), &["describe", "text"]).ended(1, "text: refused 36: ");
         assert!(begun.elapsed() < SOON, "{:?}", begun.elapsed());
     }
+}
+
+/// Nor does it take room: neither memory nor addresses.
+#[test]
+fn a_text_of_a_tebibyte_needs_little_room() {
+    if emulated() {
+        println!("NOT RUN: little room, since an emulator needs more itself");
+        return;
+    }
+    let folder = Folder::new();
+    text(&folder, TEXT, long());
+    let output = Command::new("sh")
+        .args(["-c", "ulimit -v 1000000 && exec \"$0\" describe text", TOOL])
+        .current_dir(folder.path())
+        .output();
+    Ran::of(output.expect("a shell")).ended(1, "text: refused 36: ");
 }
 
 /// 36 comes before 31 and 30, and zero bytes count.

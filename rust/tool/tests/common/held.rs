@@ -2,6 +2,7 @@
 #![allow(dead_code)]
 
 use crate::common::{names, tool, Folder};
+use std::path::Path;
 use std::process::{Child, Command, Stdio};
 use std::thread::sleep;
 use std::time::{Duration, Instant};
@@ -13,28 +14,34 @@ pub const BIG: u64 = 1 << 21;
 pub fn held(folder: &Folder, words: &[&str]) -> Child {
     let mut command = tool(folder.path());
     command.args(words);
-    hold(folder, &mut command)
+    hold(folder.path(), &mut command)
 }
 
-pub fn hold(folder: &Folder, command: &mut Command) -> Child {
-    let child = command
+/// Holds a command once an unfinished output is in the folder.
+pub fn hold(folder: &Path, command: &mut Command) -> Child {
+    let child = begun(folder, command);
+    assert!(has_part(folder), "it ended before it was held");
+    signal(&child, libc::SIGSTOP);
+    child
+}
+
+/// Starts a command that writes, and waits until its unfinished output is there.
+pub fn begun(folder: &Path, command: &mut Command) -> Child {
+    let mut child = command
         .stdout(Stdio::piped())
         .stderr(Stdio::piped())
         .spawn()
         .expect("the tool starts");
     let begun = Instant::now();
-    while !has_part(folder) {
+    while !has_part(folder) && child.try_wait().expect("a child").is_none() {
         assert!(begun.elapsed() < Duration::from_secs(60), "no output begun");
         sleep(Duration::from_micros(200));
     }
-    signal(&child, libc::SIGSTOP);
     child
 }
 
-fn has_part(folder: &Folder) -> bool {
-    names(folder.path())
-        .iter()
-        .any(|name| name.ends_with(".part"))
+fn has_part(folder: &Path) -> bool {
+    names(folder).iter().any(|name| name.ends_with(".part"))
 }
 
 pub fn signal(child: &Child, signal: libc::c_int) {

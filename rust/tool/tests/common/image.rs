@@ -1,8 +1,9 @@
 //! Images that a test writes by itself: too long to be samples, since they are mostly holes.
 #![allow(dead_code)]
 
-use std::fs::File;
-use std::os::unix::fs::FileExt;
+use std::fs::{File, Metadata};
+use std::os::unix::fs::{FileExt, MetadataExt};
+use std::os::unix::io::AsRawFd;
 use std::path::Path;
 
 pub const GRAIN: u64 = 128;
@@ -52,13 +53,14 @@ impl Image {
         self.file.set_len(length).expect("a length");
     }
 
+    /// Where the table entry of a grain is, in bytes.
+    pub fn entry_at(&self, grain: u64) -> u64 {
+        512 * (self.tables + 4 * (grain / 512)) + 4 * (grain % 512)
+    }
+
     /// Grain `grain` has table entry `entry`.
     pub fn entry(&self, grain: u64, entry: u64) {
-        let table = self.tables + 4 * (grain / 512);
-        self.put(
-            512 * table + 4 * (grain % 512),
-            &(entry as u32).to_le_bytes(),
-        );
+        self.put(self.entry_at(grain), &(entry as u32).to_le_bytes());
     }
 
     /// Every grain stored, in order, and all of them holes.
@@ -89,4 +91,19 @@ fn head(capacity: u64) -> Vec<u8> {
     head.extend(b"\n \r\n");
     head.resize(512, 0);
     head
+}
+
+/// Puts back the time of modification that the file had.
+pub fn put_back(file: &File, facts: &Metadata) {
+    let omitted = libc::timespec {
+        tv_sec: 0,
+        tv_nsec: libc::UTIME_OMIT,
+    };
+    let before = libc::timespec {
+        tv_sec: facts.mtime(),
+        tv_nsec: facts.mtime_nsec(),
+    };
+    // SAFETY: two records to be read, of an open file.
+    let status = unsafe { libc::futimens(file.as_raw_fd(), [omitted, before].as_ptr()) };
+    assert_eq!(status, 0);
 }

@@ -5,7 +5,10 @@ mod disk;
 mod map;
 mod raw;
 
-use anhkhovet::{collapse, descriptor, find, header, normal, Located, Refusal, Source, SECTOR};
+use anhkhovet::{
+    check, collapse, descriptor, find, frame, header, lookup, normal, Group, Located, Refusal,
+    Source, SECTOR,
+};
 use disk::{bytes, path, text, Extent, Reader};
 use map::{runs, Run};
 use raw::Raw;
@@ -190,40 +193,43 @@ fn descriptors() {
     }
 }
 
-/// The areas of an image but its grains, as the library lists them.
-fn frame(image: &[u8]) -> Vec<[u64; 3]> {
-    let mut list = [0; 96];
-    let framed = raw::frame(image, &mut list);
-    assert_eq!(framed.number, 0);
-    let areas = list.chunks(3).take(framed.count as usize);
-    areas.map(|area| [area[0], area[1], area[2]]).collect()
+/// The areas of an image but its grains: group, first sector, sectors.
+fn areas(image: &[u8]) -> Vec<(Group, u64, u64)> {
+    let areas = frame(image).unwrap().into_iter();
+    areas
+        .map(|area| (area.group, area.first, area.sectors))
+        .collect()
 }
 
 /// qemu-img lays all its images out alike; VMDKstream has a footer, and COWD another layout.
 #[test]
 fn frames() {
     let qemu = [
-        [1, 0, 1],
-        [2, 1, 20],
-        [3, 26, 1],
-        [4, 21, 1],
-        [5, 27, 4],
-        [6, 22, 4],
+        (Group::Header, 0, 1),
+        (Group::Descriptor, 1, 20),
+        (Group::Directory, 26, 1),
+        (Group::RedundantDirectory, 21, 1),
+        (Group::PrimaryTable, 27, 4),
+        (Group::RedundantTable, 22, 4),
     ];
     let stream = [
-        [1, 0, 1],
-        [2, 1, 1],
-        [3, 141, 1],
-        [5, 136, 4],
-        [7, 143, 1],
-        [8, 144, 1],
+        (Group::Header, 0, 1),
+        (Group::Descriptor, 1, 1),
+        (Group::Directory, 141, 1),
+        (Group::PrimaryTable, 136, 4),
+        (Group::Footer, 143, 1),
+        (Group::LastSector, 144, 1),
     ];
     for (name, _, _) in DISKS {
         let expected = if name == "vmdkstream" { stream } else { qemu };
-        assert_eq!(frame(&bytes(&format!("{name}.vmdk"))), expected, "{name}");
+        assert_eq!(areas(&bytes(&format!("{name}.vmdk"))), expected, "{name}");
     }
-    let cowd = [[1, 0, 4], [3, 4, 1], [5, 5, 32]];
-    assert_eq!(frame(&bytes("cowd-s001.vmdk")), cowd);
+    let cowd = [
+        (Group::Header, 0, 4),
+        (Group::Directory, 4, 1),
+        (Group::PrimaryTable, 5, 32),
+    ];
+    assert_eq!(areas(&bytes("cowd-s001.vmdk")), cowd);
 }
 
 /// Of an image without packed grains the frame alone, zeros elsewhere, has the same check, lookups and frame.
@@ -232,21 +238,23 @@ fn frames_decide() {
     for (name, _, counts) in DISKS {
         let image = bytes(&format!("{name}.vmdk"));
         let mut alone = vec![0; image.len()];
-        for [_, first, sectors] in frame(&image) {
+        for (_, first, sectors) in areas(&image) {
             let part = (first * SECTOR) as usize..((first + sectors) * SECTOR) as usize;
             alone[part.clone()].copy_from_slice(&image[part]);
         }
-        assert_eq!(frame(&alone), frame(&image), "{name}");
-        if counts[PACKED as usize] > 0 {
+        assert_eq!(areas(&alone), areas(&image), "{name}");
+        let [.., packed] = counts;
+        if packed > 0 {
             // What is left of a packed grain is a marker of zeros.
-            assert_eq!(raw::check(&alone).number, 10, "{name}");
+            let number = check(&alone).map_err(|refusal| refusal.number);
+            assert_eq!(number, Err(10), "{name}");
             continue;
         }
-        let verdict = raw::check(&image);
-        assert_eq!(raw::check(&alone), verdict, "{name}");
-        for sector in 0..=verdict.capacity {
-            let located = raw::lookup(&image, sector);
-            assert_eq!(raw::lookup(&alone, sector), located, "{name} {sector}");
+        let disk = check(&image);
+        assert_eq!(check(&alone), disk, "{name}");
+        for sector in 0..=disk.unwrap().capacity {
+            let found = (lookup(&alone, sector), lookup(&image, sector));
+            assert_eq!(found.0, found.1, "{name} {sector}");
         }
     }
 }

@@ -95,13 +95,19 @@ impl Made {
 
     /// One grain's entry.
     fn grain(&mut self, form: &Form, number: u64) -> u64 {
-        if !self.chance.once_in(if form.cowd { 100 } else { 30 }) {
+        if number * form.grain >= form.capacity {
+            // Entries past the last grain may be anything.
+            return self.chance.below(1 << 32);
+        }
+        let rare = if form.cowd { 100 } else { 30 };
+        if !self.chance.once_in(if form.packed { 8 } else { rare }) {
             return self.chance.below(if form.cowd { 1 } else { 2 });
         }
         if !form.packed {
             return self.area(form.grain);
         }
-        let size = 1 + self.chance.below(1500);
+        let most = 1000 << self.chance.below(4);
+        let size = 1 + self.chance.below(most);
         let first = self.area((12 + size + 511) / 512);
         self.put(512 * first, &(number * form.grain).to_le_bytes());
         self.word(512 * first + 8, size);
@@ -184,10 +190,15 @@ impl Made {
     /// Damage of some kind, or none.
     fn damage(&mut self, form: &Form) {
         let length = 512 * self.used;
-        match self.chance.below(8) {
-            // An entry somewhere, or a number of the header.
+        match self.chance.below(11) {
+            // An entry, mostly of a table in the beginning, or a number of the header.
             0 | 1 => {
-                let at = 4 * self.chance.below(length / 4);
+                let most = if self.chance.once_in(4) {
+                    length
+                } else {
+                    16 * 512
+                };
+                let at = 4 * self.chance.below(most / 4);
                 let word = self.chance.below(2 * self.used);
                 self.word(at, word);
             }
@@ -203,7 +214,8 @@ impl Made {
                 self.put(at, &number.to_le_bytes());
             }
             4 | 5 => {
-                let cut = 1 + self.chance.below(length.min(60 * 512));
+                let most = 512 << self.chance.below(7);
+                let cut = 1 + self.chance.below(length.min(most));
                 self.bytes.truncate((length - cut) as usize);
             }
             // Maybe a marker's size.
@@ -211,6 +223,10 @@ impl Made {
                 let at = 512 * self.chance.below(self.used) + 8;
                 let size = self.chance.below(2) * 512 * self.chance.below(self.used);
                 self.word(at, size);
+            }
+            7 => {
+                let most = 64 << self.chance.below(12);
+                self.bytes.truncate(self.chance.below(most) as usize);
             }
             _ => {}
         }

@@ -1,0 +1,154 @@
+//! The lines of a list in batches, with what the image has for them.
+
+use crate::difference::Fault;
+use crate::failure::Failure;
+use crate::files::Layers;
+use crate::hash::{Hash, Hasher, Piece};
+use crate::lines::{Content, Lines, Listed};
+use anhkhovet::{Disk, SECTOR};
+use std::path::Path;
+
+/// As many lines and bytes of sectors are worked on at once.
+const LINES: usize = 1 << 11;
+const BYTES: u64 = 1 << 20;
+
+/// A line by its number: what it has, or its sector and why it does not hold whatever the image has.
+pub struct Item {
+    pub line: u64,
+    pub listed: Result<Listed, (Option<u64>, Fault)>,
+}
+
+/// What the image has at a sector: the first sector of its digest, whether its grain is packed, and the digest.
+#[derive(Clone, Copy)]
+pub struct Found {
+    pub first: u64,
+    pub packed: bool,
+    pub hash: Hash,
+}
+
+#[derive(Default)]
+pub struct Batch {
+    pub items: Vec<Item>,
+    /// Lines in a row that name sectors of one grain in a row: where these are, and how many lines.
+    pieces: Vec<(Piece, usize)>,
+}
+
+/// Makes batches.
+pub struct Reader<'a> {
+    layers: &'a mut Layers,
+    disk: Disk,
+    grains: bool,
+    lines: Lines,
+    ended: bool,
+}
+
+impl<'a> Reader<'a> {
+    pub fn open(
+        layers: &'a mut Layers,
+        disk: Disk,
+        grains: bool,
+        list: &Path,
+    ) -> Result<Reader<'a>, Failure> {
+        Ok(Reader {
+            layers,
+            disk,
+            grains,
+            lines: Lines::open(list)?,
+            ended: false,
+        })
+    }
+
+    pub fn next(&mut self) -> Result<Option<Batch>, Failure> {
+        let mut batch = Batch::default();
+        let mut bytes = 0;
+        while !self.ended && batch.items.len() < LINES && bytes < BYTES {
+            let content = match self.lines.next()? {
+                Some(content) => content,
+                None => break,
+            };
+            self.ended = matches!(content, Content::Binary);
+            let listed = self.listed(content);
+            bytes += listed.as_ref().map_or(0, |line| self.length(line));
+            let line = self.lines.number;
+            batch.items.push(Item { line, listed });
+        }
+        for (first, sectors, lines) in self.rows(&batch.items) {
+            let piece = Piece::of(self.layers, first, sectors)?;
+            batch.pieces.push((piece, lines));
+        }
+        Ok(Some(batch).filter(|batch| !batch.items.is_empty()))
+    }
+
+    fn listed(&self, content: Content) -> Result<Listed, (Option<u64>, Fault)> {
+        let line = match content {
+            Content::Malformed => return Err((None, Fault::Form)),
+            Content::Binary => return Err((None, Fault::Text)),
+            Content::Entry(line) => line,
+        };
+        let (sector, first) = (line.sector, self.first(line.sector));
+        if sector >= self.disk.capacity {
+            Err((Some(sector), Fault::Past(self.disk.capacity - 1)))
+        } else if self.grains && sector != first {
+            Err((Some(sector), Fault::Inside(first)))
+        } else {
+            Ok(line)
+        }
+    }
+
+    /// The first sector of a sector's grain.
+    fn first(&self, sector: u64) -> u64 {
+        sector - sector % self.disk.grain_size
+    }
+
+    /// The sectors of a line.
+    fn sectors(&self, line: &Listed) -> u64 {
+        if self.grains {
+            self.disk.grain_size.min(self.disk.capacity - line.sector)
+        } else {
+            1
+        }
+    }
+
+    fn length(&self, line: &Listed) -> u64 {
+        SECTOR * self.sectors(line)
+    }
+
+    /// First sector, sectors and lines of what stands in a row.
+    fn rows(&self, items: &[Item]) -> Vec<(u64, u64, usize)> {
+        let mut rows: Vec<(u64, u64, usize)> = Vec::new();
+        for line in items.iter().filter_map(|item| item.listed.as_ref().ok()) {
+            let sector = line.sector;
+            match rows.last_mut() {
+                Some((first, sectors, lines))
+                    if sector == *first + *sectors && self.first(sector) == self.first(*first) =>
+                {
+                    *sectors += 1;
+                    *lines += 1;
+                }
+                _ => rows.push((sector, self.sectors(line), 1)),
+            }
+        }
+        rows
+    }
+}
+
+impl Batch {
+    /// What the image has for each line that has one.
+    pub fn found(&self, hasher: &mut Hasher, grains: bool) -> Result<Vec<Found>, Failure> {
+        let mut all = Vec::with_capacity(self.items.len());
+        for (piece, lines) in &self.pieces {
+            let packed = piece.packed();
+            hasher.each(piece, grains, |sector, hash| {
+                let found = Found {
+                    first: sector,
+                    packed,
+                    hash: *hash,
+                };
+                // The digest of a packed grain is that of all of its sectors.
+                let times = if packed { *lines } else { 1 };
+                all.extend(std::iter::repeat(found).take(times));
+            })?;
+        }
+        Ok(all)
+    }
+}
