@@ -1,7 +1,7 @@
 // Answers in document 01's numbers, for whoever prints them or hands them on.
 ghost use mathlib.Core.Path.{_≡_};
 ghost use Rattle.format.specs.Answers.{number, place, headerNumbers, verdict, served, unserved, located, chained};
-ghost use Rattle.format.specs.Answers.{written, framed};
+ghost use Rattle.format.specs.Answers.{written, framed, surveyed};
 use format::ChainAnswer;
 use format::CheckAnswer;
 use format::CollapseAnswer;
@@ -13,6 +13,8 @@ use format::Located;
 use format::LookupAnswer;
 use format::Refusal;
 use format::Source;
+use format::SurveyAnswer;
+use format::Surveyed;
 use format::Verdict;
 use format::Written;
 
@@ -195,6 +197,32 @@ pub fn framed_of(a: FrameAnswer) -> Framed
                 number: told.0,
                 place: told.1,
                 count: 0,
+            }
+        }
+    }
+}
+
+pub fn surveyed_of(a: SurveyAnswer) -> Surveyed
+    ensures { λ r. ⌜ r ≡ surveyed a ⌝ }
+{
+    match a {
+        SurveyAnswer::Surveyed(totals) => Surveyed {
+            number: 0,
+            place: 0,
+            stored: totals.stored,
+            zero: totals.zero,
+            absent: totals.absent,
+            packed: totals.packed,
+        },
+        SurveyAnswer::Refused(refusal) => {
+            let told = numbers_of(refusal);
+            Surveyed {
+                number: told.0,
+                place: told.1,
+                stored: 0,
+                zero: 0,
+                absent: 0,
+                packed: 0,
             }
         }
     }

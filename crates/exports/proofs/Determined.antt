@@ -17,6 +17,7 @@ use Rattle.exports.proofs.anhkhovet_read as read
 use Rattle.exports.proofs.anhkhovet_frame as frame
 use Rattle.exports.proofs.anhkhovet_normal as normal
 use Rattle.exports.proofs.anhkhovet_collapse as collapse
+use Rattle.exports.proofs.lists.anhkhovet_survey as survey
 use Rattle.exports.proofs.extents.anhkhovet_descriptor as descriptor
 use Rattle.exports.proofs.extents.anhkhovet_find as find
 
@@ -97,7 +98,24 @@ module _ (T : Ended) where
           fact-use 𝓤 ψ (snd∗ 𝓤 (fact 𝓤 φ) (fact 𝓤 ψ)) (λ o. via 𝓤 (fact 𝓤 φ) (fst∗ 𝓤 (fact 𝓤 φ) (fact 𝓤 ψ))
           (fact-mono 𝓤 φ (φ × (ws ≡ last κs a)) (λ e. (e, follows κs a ws o)))))
 
--- ---- the ten calls: each `_` is what the contract itself says
+    -- it says the answer and the last contents of the two slices that may be written
+    module _ (X Y : Type 0) (content : (κs : Lifetimes T) → Arguments T κs → X) (other : (κs : Lifetimes T) → Arguments T κs → Y)
+        (see : (κs : Lifetimes T) → AtExit T κs → X) (seeOther : (κs : Lifetimes T) → AtExit T κs → Y)
+        (put : (κs : Lifetimes T) (a : Arguments T κs) → X → Y → Lasts T κs a)
+        (all : (κs : Lifetimes T) (a : Arguments T κs) (ws : Lasts T κs a)
+        → ws ≡ put κs a (see κs (atExit T κs a ws)) (seeOther κs (atExit T κs a ws))) where
+      written-both : Determined T
+          (Ensures (λ M 𝓤 κs a r e.
+          fact 𝓤 ((r ≡ answer κs a) × ((see κs e ≡ content κs a) × (seeOther κs e ≡ other κs a)))))
+      written-both = determined
+          (λ M 𝓤 κs a r e. fact 𝓤 ((r ≡ answer κs a) × ((see κs e ≡ content κs a) × (seeOther κs e ≡ other κs a))))
+          (λ κs a. put κs a (content κs a) (other κs a)) (λ M 𝓤 κs a r ws.
+          let e = atExit T κs a ws in
+          fact-mono 𝓤 ((r ≡ answer κs a) × ((see κs e ≡ content κs a) × (seeOther κs e ≡ other κs a)))
+          ((r ≡ answer κs a) × (ws ≡ put κs a (content κs a) (other κs a)))
+          (λ p. (p .0, all κs a ws ∙ (λ i. put κs a (p .1 .0 i) (p .1 .1 i)))))
+
+-- ---- the eleven calls: each `_` is what the contract itself says
 pub check-determined : Determined check.ended (λ M. check.spec)
 check-determined = answered check.ended _ (λ κs a. (tt, tt)) (λ κs a ws. refl)
 
@@ -127,6 +145,11 @@ normal-determined =
 pub collapse-determined : Determined collapse.ended (λ M. collapse.spec)
 collapse-determined =
     written-apart collapse.ended _ _ _ (λ κs e. now (e .1 .1 .0)) (λ κs a x. (tt, (tt, (x, tt)))) (λ κs a ws. refl)
+
+pub survey-determined : Determined survey.ended (λ M. survey.spec)
+survey-determined =
+    written-both survey.ended _ _ _ _ _ (λ κs e. now (e .1 .1 .0)) (λ κs e. now (e .1 .1 .1 .0))
+    (λ κs a x y. (tt, (tt, (x, (y, tt))))) (λ κs a ws. refl)
 
 pub descriptor-determined : Determined descriptor.ended (λ M. descriptor.spec)
 descriptor-determined =

@@ -16,6 +16,7 @@ use format::Verdict;
 use format::Written;
 
 mod extents;
+mod lists;
 
 #[no_mangle]
 pub extern "C" fn anhkhovet_check(image: &[u8]) -> Verdict

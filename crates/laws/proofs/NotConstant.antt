@@ -25,13 +25,15 @@ use Rattle.format.specs.Grains.{upperUnlessAbsent, grainFrom, oneIfStored, stor
 use Rattle.format.specs.Layout.{tableCount, tablesAt, tablesEnd, sectorV, layoutLength}
 use Rattle.format.specs.Collapse.{ifAccepted, writtenIfRoom, normalFrom, normal, collapseFrom, collapse}
 use Rattle.format.specs.Frame.{frameAreas, listedIfRoom, frameFrom, frame}
-use Rattle.format.specs.Answers.{headerNumbers, verdict, located, chained, written, framed}
+use Rattle.format.specs.Answers.{headerNumbers, verdict, located, chained, written, framed, surveyed}
 use Rattle.format.specs.declared.Head.{Head}
 use Rattle.format.specs.declared.Verdict.{Verdict}
 use Rattle.format.specs.declared.Located.{Located}
 use Rattle.format.specs.declared.Part.{Part}
 use Rattle.format.specs.declared.Written.{Written}
 use Rattle.format.specs.declared.Framed.{Framed}
+use Rattle.format.specs.declared.Surveyed.{Surveyed}
+use Rattle.format.specs.Survey.{entryKind, countOf, rowFrom, addRow, totalsBelow, surveyedIfRoom, survey}
 use Rattle.laws.specs.Images.{kdmvSector, small}
 use Rattle.descriptor.specs.declared.Described.{Described}
 use Rattle.descriptor.specs.declared.Extent.{Extent}
@@ -89,6 +91,14 @@ pub frame-varies : (r : Framed) → ((s : List ℕ) (room : ℕ) → r ≡ frame
 unfolding pick powerUpTo leAt leBytes sameAt zeros grains directoryEntries directorySectors kdmvFields kdmvFault kdmvHeader directoryOf unlessFault withFooter judgeKdmv judge rows meaning ifThere named redundantTables runsPast misplaced frameAreas listedIfRoom frameFrom
 frame-varies r same =
     differ (λ s. framed (frame s 9)) (λ (v : Framed). v .count) (small 0 0 0 0) 3 (omega arith) refl refl r (λ s. same s 9)
+
+-- a stored grain in an image that stands alone
+pub survey-varies : (r : Surveyed)
+    → ((s lengths : List ℕ) (rowsRoom tallyRoom : ℕ) → r ≡ surveyed (survey s lengths rowsRoom tallyRoom)) → ⊥
+unfolding pick powerUpTo leAt leBytes sameAt zeros grains directoryEntries directorySectors kdmvFields kdmvFault kdmvHeader directoryOf unlessFault withFooter judgeKdmv judge rows meaning inTable entryOfGrain grainSectors ifThere named redundantTables areas runsPast shares sharesAny meet misplaced lowestFrom copiesDiffer unlessGrain checkApart checkCopies checkGrains checkLayout checkFrom headerOf lengthsSum entryKind countOf rowFrom addRow totalsBelow surveyedIfRoom survey
+survey-varies r same =
+    differ (λ s. surveyed (survey s (length s ∷ []) 6 63)) (λ (v : Surveyed). v .stored) (small 6 0 0 8) 1 (omega arith) refl
+    refl r (λ s. same s (length s ∷ []) 6 63)
 
 -- eight sectors are written, for which there is room
 pub normal-varies : (r : Written) → ((s : List ℕ) (room : ℕ) → r ≡ written (normal s room)) → ⊥
