@@ -1,4 +1,4 @@
-//! What the calls answer, in document 01's numbers. A field that does not apply is 0, and number 0 is an answer.
+//! What the calls answer, in document 01's and 02's numbers. A field that does not apply is 0, and number 0 is an answer.
 
 /// A refusal: its number and its place.
 #[derive(Clone, Copy, Debug, PartialEq, Eq)]
@@ -74,6 +74,17 @@ pub struct Written {
     pub number: u64,
     pub place: u64,
     pub length: u64,
+}
+
+/// The survey's answer: the grains of the accepted images, by kind.
+#[derive(Clone, Copy, Debug, Default, PartialEq, Eq)]
+pub struct Surveyed {
+    pub number: u64,
+    pub place: u64,
+    pub stored: u64,
+    pub zero: u64,
+    pub absent: u64,
+    pub packed: u64,
 }
 
 /// What a descriptor says beside its extents.

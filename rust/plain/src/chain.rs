@@ -8,7 +8,7 @@ const MOST_LAYERS: usize = 16;
 
 /// The public call: `layers` end to end, base first, and their lengths.
 pub fn chain(layers: &[u8], lengths: &[u64], sector: u64) -> Located {
-    let parts = match split(layers, lengths) {
+    let parts = match split(layers, lengths, MOST_LAYERS) {
         Some(parts) => parts,
         None => return located(Err(refusal(24)), 0),
     };
@@ -38,16 +38,17 @@ pub fn chain(layers: &[u8], lengths: &[u64], sector: u64) -> Located {
     located(Ok(Source::Absent), 0)
 }
 
-/// The layers; nothing where their count or lengths break rule 24. The sum is exact, so it can't wrap to the right one.
-fn split<'a>(layers: &'a [u8], lengths: &[u64]) -> Option<Vec<&'a [u8]>> {
-    if lengths.is_empty() || lengths.len() > MOST_LAYERS {
+/// The parts, at most `most`, end to end; nothing where their count or lengths break rule 24. The sum is exact, so it can't
+/// wrap to the right one.
+pub fn split<'a>(bytes: &'a [u8], lengths: &[u64], most: usize) -> Option<Vec<&'a [u8]>> {
+    if lengths.is_empty() || lengths.len() > most {
         return None;
     }
     let sum: u128 = lengths.iter().map(|length| u128::from(*length)).sum();
-    if sum != layers.len() as u128 {
+    if sum != bytes.len() as u128 {
         return None;
     }
-    let mut rest = layers;
+    let mut rest = bytes;
     let mut parts = Vec::new();
     for length in lengths {
         let (part, after) = rest.split_at(*length as usize);

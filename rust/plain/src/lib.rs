@@ -1,6 +1,7 @@
-//! Document 01, written out plainly and independently of the proved library, so that the two can be compared.
+//! Document 01, as document 02's requests extend it, written out plainly and independently of the proved library, so that the
+//! two can be compared.
 //!
-//! Read it beside document 01: each file is one section of it. Nothing here is fast or clever on purpose.
+//! Read it beside them: each file is one section or one request. Nothing here is fast or clever on purpose.
 
 mod answers;
 mod chain;
@@ -12,11 +13,12 @@ mod image;
 mod line;
 mod lookup;
 mod numbers;
+mod survey;
 mod write;
 
 pub use answers::{
-    Described, Extent, Found, Framed, Head, Located, Part, Refusal, Verdict, Written, ABSENT,
-    PACKED, STORED, ZERO,
+    Described, Extent, Found, Framed, Head, Located, Part, Refusal, Surveyed, Verdict, Written,
+    ABSENT, PACKED, STORED, ZERO,
 };
 pub use chain::chain;
 pub use check::check;
@@ -24,4 +26,5 @@ pub use describe::{descriptor, find, MOST_EXTENTS, MOST_TEXT};
 pub use frame::frame;
 pub use header::header;
 pub use lookup::{lookup, read};
+pub use survey::survey;
 pub use write::{collapse, normal, over};

@@ -1,8 +1,11 @@
 //! The frame: which areas there are in images laid out by hand, their order, and the refusals.
 
 mod common;
+#[path = "common/parts.rs"]
+mod parts;
 
 use common::{cowd, kdmv, put32, put64, set};
+use parts::{pack, put_entries, put_footer};
 use plain::{check, frame};
 
 /// What the list holds before a call; no area has such a word.
@@ -32,12 +35,6 @@ fn refused(image: &[u8]) -> u64 {
     verdict.number
 }
 
-fn put_entries(image: &mut [u8], directory: usize, entries: &[u32]) {
-    for (index, entry) in entries.iter().enumerate() {
-        put32(image, directory * 512 + index * 4, *entry);
-    }
-}
-
 /// Twenty sectors: directory 1, table 2, descriptor 6 and 7, redundant directory 8, its table 9; from 13 on nothing.
 fn furnished() -> Vec<u8> {
     let mut image = kdmv(16, 8, 20);
@@ -46,20 +43,6 @@ fn furnished() -> Vec<u8> {
     put64(&mut image, 48, 8);
     put_entries(&mut image, 8, &[9]);
     image
-}
-
-/// Makes an image packed, with markers; its directory stays where sector 0 says.
-fn pack(image: &mut [u8]) {
-    put32(image, 8, 0x30001);
-    image[77] = 1;
-}
-
-/// Gives a packed image a footer in its last two sectors, which names the directory at sector `directory`.
-fn put_footer(image: &mut [u8], directory: u64) {
-    let footer = image.len() - 1024;
-    put64(image, 56, u64::MAX);
-    image.copy_within(..512, footer);
-    put64(image, footer + 56, directory);
 }
 
 #[test]
