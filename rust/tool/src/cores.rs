@@ -5,7 +5,7 @@ use std::collections::VecDeque;
 use std::num::NonZeroUsize;
 use std::sync::mpsc::{channel, Receiver, Sender};
 use std::sync::Mutex;
-use std::thread::{self, Builder};
+use std::thread::{self, Builder, Scope};
 
 /// A job and where its result goes.
 type Given<J, D> = (J, Sender<D>);
@@ -16,25 +16,23 @@ pub fn in_order<J: Send, D: Send>(
     work: impl Fn(J) -> D + Sync,
     mut take: impl FnMut(D) -> Result<(), Failure>,
 ) -> Result<(), Failure> {
-    let cores = thread::available_parallelism().map_or(1, NonZeroUsize::get);
     let (give, given) = channel();
     let given = Mutex::new(given);
     thread::scope(|scope| {
         // Dropped at the end of this closure, which is what ends the threads.
         let give = give;
-        let hands = (0..cores)
-            .filter(|_| {
-                Builder::new()
-                    .spawn_scoped(scope, || serve(&given, &work))
-                    .is_ok()
-            })
-            .count();
+        let hands = start(scope, &given, &work);
         let mut waiting = VecDeque::new();
+        // How the jobs ended. What was begun before is taken first, so that it is the same on any number of cores.
+        let mut end = None;
         loop {
-            while waiting.len() < 2 * hands.max(1) {
-                let job = match next()? {
-                    Some(job) => job,
-                    None => break,
+            while end.is_none() && waiting.len() < 2 * hands.max(1) {
+                let job = match next() {
+                    Ok(Some(job)) => job,
+                    ended => {
+                        end = Some(ended.map(|_| ()));
+                        break;
+                    }
                 };
                 let (answer, result) = channel();
                 if hands == 0 {
@@ -46,12 +44,26 @@ pub fn in_order<J: Send, D: Send>(
                 waiting.push_back(result);
             }
             match waiting.pop_front() {
-                None => return Ok(()),
+                None => return end.unwrap_or(Ok(())),
                 // Nothing comes from a thread that panicked, and then the scope does too.
                 Some(result) => result.recv().map_or(Ok(()), &mut take)?,
             }
         }
     })
+}
+
+/// Starts a thread for each core, and says how many could be started.
+fn start<'a, J: Send + 'a, D: Send + 'a>(
+    scope: &'a Scope<'a, '_>,
+    given: &'a Mutex<Receiver<Given<J, D>>>,
+    work: &'a (impl Fn(J) -> D + Sync),
+) -> usize {
+    let cores = thread::available_parallelism().map_or(1, NonZeroUsize::get);
+    let started = |_: &usize| {
+        let thread = Builder::new().spawn_scoped(scope, move || serve(given, work));
+        thread.is_ok()
+    };
+    (0..cores).filter(started).count()
 }
 
 fn serve<J, D>(given: &Mutex<Receiver<Given<J, D>>>, work: &impl Fn(J) -> D) {

@@ -161,7 +161,7 @@ impl Text {
         );
         all += "extent        first      sectors access   type           offset name\n";
         for (number, extent) in said.extents.iter().enumerate() {
-            all += &format!(
+            let line = format!(
                 "{number:>6} {:>12} {:>12} {:<8} {:<10} {:>10}",
                 extent.first,
                 extent.sectors,
@@ -169,6 +169,7 @@ impl Text {
                 extent.kind.word(),
                 extent.offset,
             );
+            all += &line;
             if !extent.name.is_empty() {
                 all += " ";
                 all += &shown(self.part(&extent.name));
@@ -191,7 +192,8 @@ pub fn describe(path: &Path, sector: Option<u64>, json: bool) -> Result<(), Fail
     if let Some(sector) = sector {
         let found = anhkhovet::find(&said.extents, sector);
         let extent = found.map_err(Failure::refused(path))?;
-        lines += &format!("sector {sector}: extent {extent}\n");
+        let held = format!("sector {sector}: extent {extent}\n");
+        lines += &held;
         object["sector"] = json!({ "sector": sector, "extent": extent });
     }
     print::answer(json, || lines, || object)

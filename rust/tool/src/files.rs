@@ -1,5 +1,6 @@
 //! The files of one command, as the library gets them: own bytes, several files end to end in one range, base first.
 
+use crate::entries;
 use crate::failure::{Failure, Refusal};
 use crate::frame;
 use crate::layer::Layer;
@@ -138,10 +139,10 @@ impl Layers {
         let part = &mut self.parts[layer as usize];
         let own = &mut self.own.bytes_mut()[part.bytes.clone()];
         let unsure = matches!(&answer, Err(refusal) if matches!(refusal.number, 9 | 10));
-        if !unsure || part.marked || !frame::packed(own) {
+        if !unsure || part.marked || !entries::packed(own) {
             return Ok(answer);
         }
-        frame::copy_markers(&self.files[layer as usize], own, &part.frame)?;
+        entries::copy_markers(&self.files[layer as usize], own)?;
         part.marked = true;
         Ok(call(self.bytes(layer)))
     }
@@ -173,11 +174,11 @@ impl Layers {
         }
     }
 
-    /// Copies the whole of each file whose frame is refused 8, once.
+    /// Copies what lookups read of each file whose frame is refused 8, once.
     fn widen(&mut self) -> Result<(), Failure> {
         for (file, part) in self.files.iter().zip(&mut self.parts) {
             if part.broken {
-                file.copy(0, &mut self.own.bytes_mut()[part.bytes.clone()])?;
+                entries::copy_tables(file, &mut self.own.bytes_mut()[part.bytes.clone()])?;
                 part.broken = false;
             }
         }
@@ -188,7 +189,7 @@ impl Layers {
     fn mark(&mut self, layer: u64, grain: u64) -> Result<(), Failure> {
         let part = &self.parts[layer as usize];
         let own = &mut self.own.bytes_mut()[part.bytes.clone()];
-        frame::copy_marker(&self.files[layer as usize], own, &part.frame, grain)
+        entries::copy_marker(&self.files[layer as usize], own, grain)
     }
 
     /// A refusal of the whole chain names no layer: the library says 0 there.

@@ -10,6 +10,7 @@ mod cores;
 mod describe;
 mod difference;
 mod digest;
+mod entries;
 mod failure;
 mod files;
 mod folder;

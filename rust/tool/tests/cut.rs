@@ -7,7 +7,7 @@ mod held;
 mod image;
 
 use common::{tool, Folder, Ran};
-use image::Image;
+use image::{put_back, Image};
 use std::io::Read;
 use std::process::{Child, Stdio};
 
@@ -90,6 +90,20 @@ fn written_to_at_the_same_length() {
     let length = image.file.metadata().expect("facts").len();
     let digest = begun(&folder, &["digest", "disk"]);
     image.put(length - 1, b"x");
+    let ran = ended(digest);
+    ran.ill("disk: the file changed while it was read");
+    no_wrong_line(&ran);
+}
+
+/// The time of modification is its owner's to set, that of the last change is not.
+#[test]
+fn written_to_with_the_old_time_put_back() {
+    let folder = Folder::new();
+    let image = Image::full(&folder.at("disk"), CAPACITY);
+    let facts = image.file.metadata().expect("facts");
+    let digest = begun(&folder, &["digest", "disk"]);
+    image.put(facts.len() - 1, b"x");
+    put_back(&image.file, &facts);
     let ran = ended(digest);
     ran.ill("disk: the file changed while it was read");
     no_wrong_line(&ran);

@@ -113,7 +113,8 @@ fn most_memory() -> i64 {
     }
 }
 
-/// Of a layer whose length is no multiple of a page, and of a long file that is nearly all holes, only what decides is read.
+/// Of a layer whose length is no multiple of a page, of an image that is refused, and of a long file that is nearly all holes, only
+/// what decides is read.
 #[test]
 fn little_is_read() {
     if emulated() {
@@ -132,6 +133,12 @@ fn little_is_read() {
     Image::new(&folder.at("delta"), capacity);
     let ran = run(folder.path(), &["read", "base", "delta", "2000"]);
     assert_eq!(ran.well().out, [b'x'; 512]);
+    // A descriptor's sector without its length: the check refuses that, and no lookup does.
+    image.put(28, &[1]);
+    let ran = run(folder.path(), &["read", "base", "2000"]);
+    assert_eq!(ran.well().out, [b'x'; 512]);
+    let verdict = run(folder.path(), &["check", "base"]);
+    assert!(verdict.text().contains("refused 8"), "{}", verdict.text());
     sparse(&folder.at("long"));
     run(folder.path(), &["check", "long"]).well();
     let most = most_memory();

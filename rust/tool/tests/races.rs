@@ -9,10 +9,9 @@ mod image;
 
 use common::{emulated, run, tool, Folder, Ran};
 use held::begun;
-use image::{Image, GRAIN};
+use image::{put_back, Image, GRAIN};
 use std::fs::{self, File};
-use std::os::unix::fs::{FileExt, MetadataExt};
-use std::os::unix::io::AsRawFd;
+use std::os::unix::fs::FileExt;
 use std::path::Path;
 use std::sync::atomic::{AtomicBool, Ordering::Relaxed};
 use std::thread;
@@ -115,21 +114,6 @@ impl Chance {
         self.0 ^= self.0 << 17;
         self.0 % end
     }
-}
-
-/// Puts back the time of modification that the file had.
-fn put_back(file: &File, facts: &fs::Metadata) {
-    let omitted = libc::timespec {
-        tv_sec: 0,
-        tv_nsec: libc::UTIME_OMIT,
-    };
-    let before = libc::timespec {
-        tv_sec: facts.mtime(),
-        tv_nsec: facts.mtime_nsec(),
-    };
-    // SAFETY: two records to be read, of an open file.
-    let status = unsafe { libc::futimens(file.as_raw_fd(), [omitted, before].as_ptr()) };
-    assert_eq!(status, 0);
 }
 
 /// Goes through the steps, over and over, with pauses of any length, until it is told to stop.

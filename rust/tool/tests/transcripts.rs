@@ -86,7 +86,7 @@ fn transcript(name: &str) {
     let mut now = String::new();
     for line in stored.lines() {
         if line.starts_with('#') {
-            now += &format!("{line}\n");
+            now = now + line + "\n";
         }
         let words = match line.strip_prefix("$ ") {
             Some(words) => words,
@@ -94,7 +94,7 @@ fn transcript(name: &str) {
         };
         let list: Vec<&str> = words.split(' ').collect();
         let ran = run(folder.path(), &list);
-        now += &format!("$ {words}\n{}", ran.text());
+        now = now + "$ " + words + "\n" + &ran.text();
         for line in ran.err.lines() {
             now += format!("! {line}").trim_end();
             now.push('\n');

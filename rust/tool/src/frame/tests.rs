@@ -4,7 +4,7 @@ mod made;
 
 use crate::failure::Failure;
 use crate::files::Layers;
-use anhkhovet::{ChainRefusal, Refusal};
+use anhkhovet::{ChainRefusal, Group, Refusal};
 use made::image;
 use std::fs;
 use std::path::{Path, PathBuf};
@@ -66,7 +66,8 @@ impl Met {
             Ok(_) => self.accepted += 1,
             Err(refusal) => self.refused[refusal.number as usize] += 1,
         }
-        let frame = anhkhovet::frame(whole).unwrap_or_default();
+        let mut frame = anhkhovet::frame(whole).unwrap_or_default();
+        frame.retain(|area| area.group != Group::Descriptor);
         assert_eq!(layers.frame(0), frame, "{path:?}");
         let mut layers = Layers::one(path).expect("layers");
         let told = layers.ask(0, |image| anhkhovet::normal(image, &mut []));

@@ -1,8 +1,9 @@
 //! Images that a test writes by itself: too long to be samples, since they are mostly holes.
 #![allow(dead_code)]
 
-use std::fs::File;
-use std::os::unix::fs::FileExt;
+use std::fs::{File, Metadata};
+use std::os::unix::fs::{FileExt, MetadataExt};
+use std::os::unix::io::AsRawFd;
 use std::path::Path;
 
 pub const GRAIN: u64 = 128;
@@ -90,4 +91,19 @@ fn head(capacity: u64) -> Vec<u8> {
     head.extend(b"\n \r\n");
     head.resize(512, 0);
     head
+}
+
+/// Puts back the time of modification that the file had.
+pub fn put_back(file: &File, facts: &Metadata) {
+    let omitted = libc::timespec {
+        tv_sec: 0,
+        tv_nsec: libc::UTIME_OMIT,
+    };
+    let before = libc::timespec {
+        tv_sec: facts.mtime(),
+        tv_nsec: facts.mtime_nsec(),
+    };
+    // SAFETY: two records to be read, of an open file.
+    let status = unsafe { libc::futimens(file.as_raw_fd(), [omitted, before].as_ptr()) };
+    assert_eq!(status, 0);
 }
