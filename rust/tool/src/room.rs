@@ -70,3 +70,34 @@ impl Room<'_> {
         grains.filter(stored).count() as u64
     }
 }
+
+#[cfg(test)]
+mod tests {
+    use super::*;
+    use std::path::Path;
+
+    fn sample(name: &str) -> Vec<u8> {
+        let samples = Path::new(env!("CARGO_MANIFEST_DIR")).join("../../samples");
+        std::fs::read(samples.join(name)).expect("a sample")
+    }
+
+    /// What the library then writes has the length that was counted.
+    fn right(images: &[&[u8]], written: Result<u64, anhkhovet::Refusal>) {
+        let disk = anhkhovet::check(images[0]).expect("accepted");
+        let room = Room { disk, images };
+        assert_eq!(room.counted().expect("counted"), written.expect("written"));
+        assert!(room.most() >= written.expect("written"));
+    }
+
+    #[test]
+    fn the_length_is_known_before() {
+        let chain = ["tool-base.vmdk", "tool-middle.vmdk", "tool-top.vmdk"].map(sample);
+        let mut out = vec![0; 1 << 24];
+        for lower in &chain {
+            right(&[lower], anhkhovet::normal(lower, &mut out));
+            for upper in &chain {
+                right(&[lower, upper], anhkhovet::collapse(lower, upper, &mut out));
+            }
+        }
+    }
+}

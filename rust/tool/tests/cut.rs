@@ -124,6 +124,7 @@ mod writing {
     use super::*;
     use held::{held, signal, BIG};
     use std::fs::File;
+    use std::os::unix::fs::FileExt;
     use std::thread::yield_now;
 
     fn ran(child: Child) -> Ran {
@@ -186,6 +187,33 @@ mod writing {
         ran.ill("out: the disk is full or failed while this was written");
         assert!(ran.text().starts_with("{\"failed\":\"out: the disk"));
         assert_eq!(folder.names(), ["disk"]);
+    }
+
+    /// The file that two of three layers are in, while it is read, is looked at as any other.
+    #[test]
+    fn what_lies_between_changes() {
+        let folder = Folder::new();
+        Image::full(&folder.at("disk"), BIG);
+        Image::new(&folder.at("middle"), BIG);
+        Image::new(&folder.at("top"), BIG);
+        let words = ["collapse", "disk", "middle", "top", "-o", "out"];
+        let child = held(&folder, &words);
+        signal(&child, libc::SIGCONT);
+        // Two parts at a time: the one is read, the other written.
+        let between = loop {
+            let names = folder.names();
+            if names[1].ends_with("-1.part") {
+                break folder.at(&names[0]);
+            }
+            yield_now();
+        };
+        let between = File::options().write(true).open(between);
+        between
+            .expect("a part")
+            .write_at(b"x", 512)
+            .expect("written");
+        ran(child).ill("out: the file changed while it was read");
+        assert_eq!(folder.names(), ["disk", "middle", "top"]);
     }
 
     #[test]

@@ -100,12 +100,26 @@ static COUNT: AtomicU32 = AtomicU32::new(0);
 
 impl Folder {
     pub fn new() -> Folder {
+        Folder::inside(&std::env::temp_dir())
+    }
+
+    /// On a file system in memory, where there is one.
+    pub fn in_memory() -> Folder {
+        let memory = Path::new("/dev/shm");
+        if memory.is_dir() {
+            Folder::inside(memory)
+        } else {
+            Folder::new()
+        }
+    }
+
+    fn inside(parent: &Path) -> Folder {
         let name = format!(
             "anhkhovet-{}-{}",
             std::process::id(),
             COUNT.fetch_add(1, Relaxed)
         );
-        let path = std::env::temp_dir().join(name);
+        let path = parent.join(name);
         fs::create_dir(&path).expect("a folder of its own");
         Folder(path)
     }
