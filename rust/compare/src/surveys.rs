@@ -114,7 +114,7 @@ fn images(rng: &mut Rng, which: u64) -> (Vec<u8>, Vec<u64>) {
     while (parts.len() as u64) < count {
         let again = rng.index(MADE as usize);
         let short = parts[again].len() < 1 << 16;
-        let part = if short && rng.one_in(8) {
+        let part = if short && rng.one_in(64) {
             parts[again].clone()
         } else {
             few_bytes(rng)
