@@ -107,7 +107,7 @@ fn lend(run: &mut Run, rng: &mut Rng, images: &[u8], lengths: &[u64], rooms: [us
 
 /// Images end to end in any order, and their lengths.
 fn images(rng: &mut Rng, which: u64) -> (Vec<u8>, Vec<u64>) {
-    let count = count(rng);
+    let count = count(rng, which);
     let mut parts: Vec<Vec<u8>> = (0..count.min(MADE))
         .map(|number| image(rng, which + number))
         .collect();
@@ -126,14 +126,14 @@ fn images(rng: &mut Rng, which: u64) -> (Vec<u8>, Vec<u64>) {
     (parts.concat(), lengths)
 }
 
-/// How many images: a few mostly, seldom as many as are allowed or one more.
-fn count(rng: &mut Rng) -> u64 {
-    match rng.below(40) {
-        0 => rng.pick(&[1023, 1024, 1024, 1025]),
-        1 => 0,
-        2..=5 => 1,
-        6 => rng.within(6, 40),
-        _ => rng.within(2, 5),
+/// How many images: a few mostly, seldom none, as many as are allowed, or one more.
+fn count(rng: &mut Rng, which: u64) -> u64 {
+    match which % 32 {
+        3 => 1024,
+        11 => 1025,
+        19 => 0,
+        27 => rng.within(6, 40),
+        _ => rng.within(1, 5),
     }
 }
 

@@ -32,6 +32,7 @@ enum Mistake {
     ListsBefore21,
     WordPastTheRows,
     SumThatWraps,
+    OneImageTooMany,
     BytePastTheResult,
     ByteOnRefusal,
     LowerOverUpper,
@@ -136,6 +137,7 @@ impl Side for Mistake {
                 rows.fill(0);
                 tally.fill(0);
             }
+            (OneImageTooMany, 24) if lengths.len() == 1025 => surveyed.number = 21,
             (SumThatWraps, 24) if wrapped(lengths) == images.len() as u64 => surveyed.number = 21,
             (_, 0) => self.miscount(images, lengths, rows, &mut surveyed),
             _ => {}
@@ -243,6 +245,7 @@ fn each_mistake_is_caught() {
         ListsBefore21,
         WordPastTheRows,
         SumThatWraps,
+        OneImageTooMany,
         BytePastTheResult,
         ByteOnRefusal,
         LowerOverUpper,
