@@ -35,6 +35,10 @@ answer! {
     Framed { number, place, count }
 }
 answer! {
+    /// Grains of the accepted images, kind by kind.
+    Surveyed { number, place, stored, zero, absent, packed }
+}
+answer! {
     /// The length, in bytes, of what was written.
     Written { number, place, length }
 }
@@ -69,6 +73,16 @@ extern "C" {
         list: *mut u64,
         list_length: usize,
     ) -> Framed;
+    pub fn anhkhovet_survey(
+        images: *const u8,
+        images_length: usize,
+        lengths: *const u64,
+        lengths_length: usize,
+        rows: *mut u64,
+        rows_length: usize,
+        tally: *mut u64,
+        tally_length: usize,
+    ) -> Surveyed;
 }
 
 extern "C" {

@@ -5,6 +5,7 @@
 //! calls of [`raw`] give the same answers as plain numbers, with no list of their own.
 //!
 //! - [`check`] judges a whole image, [`header`] its header alone; [`frame`] lists what of it is no grain.
+//! - [`survey`] judges many images and counts their grains.
 //! - [`lookup`] says where a sector comes from, [`chain`] the same for layers on top of each other, and [`read`] hands over
 //!   its bytes.
 //! - [`normal`] and [`collapse`] write an image into memory that is lent.
@@ -15,8 +16,8 @@
 //!
 //! # Stack
 //!
-//! Three calls keep a mark for each of some eight million sectors on the stack: [`check`], and [`normal`] and [`collapse`], which
-//! check. A thread that makes one of them needs [`STACK`] bytes for it beside what it uses itself, or the process ends at the
+//! Four calls keep a mark for each of some eight million sectors on the stack: [`check`], and [`survey`], [`normal`] and
+//! [`collapse`], which check. A thread that makes one of them needs [`STACK`] bytes for it beside what it uses itself, or the process ends at the
 //! guard below its stack, with nothing overwritten. A main thread has 8 MiB unless `ulimit -s` says less, and a thread of
 //! Rust's 2 MiB unless it is asked for less. Every other call does with less than 16 KiB, and none of them calls itself.
 //!
@@ -32,6 +33,7 @@ mod images;
 pub mod raw;
 mod refusal;
 mod sectors;
+mod surveys;
 mod texts;
 mod writing;
 
@@ -39,6 +41,7 @@ pub use areas::{frame, Area, Group};
 pub use images::{check, header, Disk, Header};
 pub use refusal::{ChainRefusal, Counted, Refusal};
 pub use sectors::{chain, lookup, read, read_part, Located, Source};
+pub use surveys::{survey, Counts, Survey, Tallied};
 pub use texts::{descriptor, find, Access, Descriptor, Extent, ExtentKind};
 pub use writing::{collapse, normal};
 

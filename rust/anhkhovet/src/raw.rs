@@ -6,7 +6,7 @@
 
 use crate::face;
 
-pub use face::{Described, Extent, Found, Framed, Head, Located, Part, Verdict, Written};
+pub use face::{Described, Extent, Found, Framed, Head, Located, Part, Surveyed, Verdict, Written};
 
 /// The full check: refusals 1 to 12, or capacity and grain size.
 ///
@@ -52,6 +52,26 @@ pub fn read_part(image: &[u8], sector: u64) -> Part {
 pub fn frame(image: &[u8], list: &mut [u64]) -> Framed {
     // SAFETY: see the top of the file.
     unsafe { face::anhkhovet_frame(image.as_ptr(), image.len(), list.as_mut_ptr(), list.len()) }
+}
+
+/// Counts the grains of up to 1,024 images that lie end to end, kind by kind. Over the start of `rows` go six words an image:
+/// stored, zero, absent, packed, number, place; over that of `tally` 63 words, word i being how many images number i + 1 refuses.
+///
+/// It needs [`STACK`](crate::STACK) bytes of stack.
+pub fn survey(images: &[u8], lengths: &[u64], rows: &mut [u64], tally: &mut [u64]) -> Surveyed {
+    // SAFETY: see the top of the file.
+    unsafe {
+        face::anhkhovet_survey(
+            images.as_ptr(),
+            images.len(),
+            lengths.as_ptr(),
+            lengths.len(),
+            rows.as_mut_ptr(),
+            rows.len(),
+            tally.as_mut_ptr(),
+            tally.len(),
+        )
+    }
 }
 
 /// Writes the normal form of an image over the start of `out`.

@@ -70,7 +70,7 @@ impl Refusal {
             21 => "the output is too short for the result",
             22 => "the images do not have the same capacity and grain size",
             23 => "a COWD or compressed image can be neither collapsed nor brought to normal form",
-            24 => "a chain has 1 to 16 layers",
+            24 => "a chain has 1 to 16 layers, a survey 1 to 1,024 images",
             30 => "the first line is not \"# Disk DescriptorFile\"",
             31 => "there is text after a zero byte",
             32 => "the line is neither an extent nor of the form key = value",

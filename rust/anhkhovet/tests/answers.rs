@@ -92,7 +92,10 @@ fn chains() {
     );
     let of_all = chain(&layers, &[], 19).unwrap_err();
     assert_eq!(of_all.layer_at_fault(), None);
-    assert_eq!(of_all.to_string(), "refused 24: a chain has 1 to 16 layers");
+    assert_eq!(
+        of_all.to_string(),
+        "refused 24: a chain has 1 to 16 layers, a survey 1 to 1,024 images"
+    );
 }
 
 #[test]

@@ -36,4 +36,5 @@ examples! {
     normal "normal.rs"
     read "read.rs"
     stack "stack.rs"
+    survey "survey.rs"
 }

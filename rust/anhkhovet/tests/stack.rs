@@ -1,7 +1,7 @@
 //! Each call on a thread with the stack that the documentation states, and images that all of them go through to the end.
 
 use anhkhovet::{
-    chain, check, collapse, descriptor, find, frame, header, lookup, normal, read, STACK,
+    chain, check, collapse, descriptor, find, frame, header, lookup, normal, read, survey, STACK,
 };
 use std::{fs, thread};
 
@@ -23,6 +23,9 @@ fn calls_that_check() {
     let images = ["tool-base", "tool-packed", "vmdkstream", "cowd-s001"].map(sample);
     on(STACK, move || {
         assert!(images.iter().all(|image| check(image).is_ok()));
+        let lengths: Vec<u64> = images.iter().map(|image| image.len() as u64).collect();
+        let said = survey(&images.concat(), &lengths).unwrap();
+        assert!(said.rows.iter().all(Result::is_ok));
     });
     let (lower, upper) = (sample("tool-base"), sample("tool-middle"));
     let mut out = vec![0; 1 << 20];
