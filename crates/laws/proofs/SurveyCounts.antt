@@ -23,7 +23,7 @@ use Rattle.format.specs.declared.CheckAnswer.the-variants.{Accepted}
 use Rattle.format.specs.Accepted.{Accepted as Meets}
 use Rattle.laws.proofs.AcceptedImage.{accepted-sound}
 use Rattle.laws.proofs.ServedSectors.{accepted-good, served}
-use Rattle.laws.specs.Sums.{sumBelow}
+use Rattle.laws.specs.RowSums.{sumBelow}
 
 -- ---- each number below n has one of four values
 one-of-four : (v : ℕ) → v ≤ 3
@@ -89,7 +89,8 @@ module _ (s : List ℕ) (c size : ℕ) (a : check s ≡ Accepted c size) where
       let h = headerOf s in
       let some = accepted-good s meets .sound .sizes .low in
       let low : g * h .«grain_size» < h .capacity = below-ceil (h .capacity) (h .«grain_size») some g l in
-      let own : g * h .«grain_size» / h .«grain_size» ≡ g = ap (λ (x : ℕ). x / h .«grain_size») (mul-comm g (h .«grain_size»)) ∙ mul-div-right g some in
+      let own : g * h .«grain_size» / h .«grain_size» ≡ g =
+      ap (λ (x : ℕ). x / h .«grain_size») (mul-comm g (h .«grain_size»)) ∙ mul-div-right g some in
       sym (ap (λ (r : LookupAnswer). located r .kind) (served s meets (g * h .«grain_size») low)
       ∙ kind-served s (h .packed) _ _
       ∙ ap (grainKind s h) own)

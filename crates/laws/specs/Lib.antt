@@ -2,7 +2,7 @@ pub mod Layers
 pub mod Served
 pub mod Runs
 pub mod SameFrame
-pub mod Sums
+pub mod RowSums
 pub mod NeverUsed
 pub mod Unused
 pub mod Images
