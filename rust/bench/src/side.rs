@@ -45,7 +45,6 @@ pub use proved::{chain, check, collapse, describe, lookup};
 
 #[cfg(not(feature = "proved"))]
 mod stand_in {
-    use anhkhovet::raw;
     use plain::{Described, Extent, Written};
 
     pub fn collapse(lower: &[u8], upper: &[u8], out: &mut [u8]) -> Written {
