@@ -88,7 +88,7 @@ fn object(path: &Path, row: &Row) -> Value {
 }
 
 /// The library's survey of one image.
-fn counted(image: &[u8]) -> Result<(Disk, Counts), Refusal> {
+pub fn counted(image: &[u8]) -> Result<(Disk, Counts), Refusal> {
     let said = anhkhovet::survey(image, &[image.len() as u64])?;
     said.rows.into_iter().try_for_each(|row| row.map(drop))?;
     Ok((anhkhovet::header(image)?.disk, said.totals))
