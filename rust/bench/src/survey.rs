@@ -4,11 +4,14 @@ use crate::check::Input;
 use crate::image::{Image, GRAIN};
 use crate::map::Map;
 use crate::report::{grouped, Figure, Report, Timed};
-use crate::timing::best;
+use crate::timing::{in_turn, keep};
 use crate::{agree, side, Outcome, Setup};
 use plain::Surveyed;
+use std::fs::File;
 use std::io;
-use std::time::Duration;
+
+/// The aim is a ratio of two times that are nearly alike: more rounds than for others.
+const TURNS: u32 = 3;
 
 /// Images end to end.
 struct Images {
@@ -45,22 +48,25 @@ impl Images {
         Ok(told.2)
     }
 
-    fn time(&self, setup: &Setup, call: Call) -> Duration {
-        best(setup.rounds, || self.told(call))
+    /// How many the library's check refuses, image by image.
+    fn refused(&self) -> usize {
+        let refused = |image: &&[u8]| side::check(image).number != 0;
+        let images = self.map.chunks(self.lengths[0] as usize);
+        images.filter(refused).count()
     }
 
-    /// The time of the library's check of each image.
-    fn checked(&self, setup: &Setup) -> Duration {
-        let length = self.lengths[0] as usize;
-        best(setup.rounds, || {
-            let refused = |image: &&[u8]| side::check(image).number != 0;
-            self.map.chunks(length).filter(refused).count()
-        })
+    /// The times of the survey, of the check of each image, and of the plain survey.
+    fn times(&self, setup: &Setup) -> [Timed; 3] {
+        let times = in_turn(
+            TURNS * setup.rounds,
+            [
+                &|| keep(&self.told(side::survey)),
+                &|| keep(&self.refused()),
+                &|| keep(&self.told(plain::survey)),
+            ],
+        );
+        times.map(|time| Ok(Figure::whole(time)))
     }
-}
-
-fn whole(time: Duration) -> Timed {
-    Ok(Figure::whole(time))
 }
 
 /// `tables` is an empty disk with all of its tables.
@@ -85,12 +91,10 @@ fn full(setup: &Setup, report: &mut Report) -> Outcome {
         "{count} images of {size}, every grain stored: {} entries",
         grouped(stored)
     );
-    report.measure("survey", &label, &whole(images.time(setup, side::survey)));
-    report.against(
-        "the library's check, image by image",
-        &whole(images.checked(setup)),
-    );
-    report.against("plain", &whole(images.time(setup, plain::survey)));
+    let [ours, checked, plain] = images.times(setup);
+    report.measure("survey", &label, &ours);
+    report.against("the library's check, image by image", &checked);
+    report.against("plain", &plain);
     Ok(())
 }
 
@@ -104,14 +108,15 @@ fn empty(setup: &Setup, tables: &Input, report: &mut Report) -> Outcome {
         "{size} disk, empty, no tables: {} grains",
         grouped(tables.entries())
     );
-    report.measure("survey", &label, &whole(images.time(setup, side::survey)));
-    report.against("the library's check", &whole(images.checked(setup)));
-    let (mut rows, mut tally) = ([0; 6], [0; 63]);
-    let length = [tables.map.len() as u64];
-    let walked = best(setup.rounds, || {
-        side::survey(&tables.map, &length, &mut rows, &mut tally)
-    });
-    report.against("the same disk with all its tables", &whole(walked));
-    report.against("plain", &whole(images.time(setup, plain::survey)));
+    let [ours, checked, plain] = images.times(setup);
+    report.measure("survey", &label, &ours);
+    report.against("the library's check", &checked);
+    let with_tables = Images {
+        lengths: vec![tables.map.len() as u64],
+        map: Map::new(&File::open(&tables.path)?)?,
+    };
+    let [walked, ..] = with_tables.times(setup);
+    report.against("the same disk with all its tables", &walked);
+    report.against("plain", &plain);
     Ok(())
 }
