@@ -72,6 +72,16 @@ impl Image {
         }
     }
 
+    /// The same disk with nothing stored and no tables: its directory names none.
+    pub fn without_tables(mut self) -> Image {
+        let directory = ((1 + DESCRIPTOR_SECTORS) * SECTOR) as usize;
+        self.front[directory..].fill(0);
+        self.entries.clear();
+        self.stored = 0;
+        self.first_grain = self.front.len() as u64 / SECTOR;
+        self
+    }
+
     /// In bytes, exactly to the end of the last grain.
     pub fn length(&self) -> u64 {
         SECTOR * (self.first_grain + self.stored * GRAIN)

@@ -17,6 +17,7 @@ mod map;
 mod qemu;
 mod report;
 mod side;
+mod survey;
 mod timing;
 
 use folder::Folder;
@@ -29,7 +30,14 @@ use std::process::exit;
 
 /// Inputs depend on it alone.
 const SEED: u64 = 7;
-const CALLS: [&str; 5] = ["check", "lookup", "chain", "collapse", "descriptor"];
+const CALLS: [&str; 6] = [
+    "check",
+    "survey",
+    "lookup",
+    "chain",
+    "collapse",
+    "descriptor",
+];
 /// Not among them: it needs the tool, built, and measures a disk too.
 const COMMANDS: &str = "commands";
 
@@ -118,6 +126,9 @@ fn run(quick: bool, calls: &[String]) -> Result<Report, Box<dyn Error>> {
     if wanted("check") {
         check::measure(&setup, &inputs, &mut report)?;
     }
+    if wanted("survey") {
+        survey::measure(&setup, &inputs[2], &mut report)?;
+    }
     if wanted("lookup") {
         lookup::measure(&setup, &inputs[1], &mut report)?;
     }
@@ -145,7 +156,14 @@ fn run(quick: bool, calls: &[String]) -> Result<Report, Box<dyn Error>> {
 #[test]
 fn a_quick_run_has_rows_for_every_call() -> Outcome {
     let table = run(true, &CALLS.map(String::from))?.to_string();
-    for call in ["check", "lookup", "chain lookup", "collapse", "descriptor"] {
+    for call in [
+        "check",
+        "survey",
+        "lookup",
+        "chain lookup",
+        "collapse",
+        "descriptor",
+    ] {
         assert!(table.contains(&format!("| {call} |")), "{call}");
     }
     Ok(())

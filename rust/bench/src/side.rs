@@ -3,7 +3,7 @@
 #[cfg(feature = "proved")]
 mod proved {
     use anhkhovet::raw;
-    use plain::{Described, Extent, Located, Verdict, Written};
+    use plain::{Described, Extent, Located, Surveyed, Verdict, Written};
 
     /// A struct of the one side from the other's, field by field.
     macro_rules! same {
@@ -15,6 +15,10 @@ mod proved {
 
     pub fn check(image: &[u8]) -> Verdict {
         same!(raw::check(image) => Verdict { number, place, capacity, grain_size })
+    }
+
+    pub fn survey(images: &[u8], lengths: &[u64], rows: &mut [u64], tally: &mut [u64]) -> Surveyed {
+        same!(raw::survey(images, lengths, rows, tally) => Surveyed { number, place, stored, zero, absent, packed })
     }
 
     pub fn lookup(image: &[u8], sector: u64) -> Located {
@@ -41,11 +45,10 @@ mod proved {
 }
 
 #[cfg(feature = "proved")]
-pub use proved::{chain, check, collapse, describe, lookup};
+pub use proved::{chain, check, collapse, describe, lookup, survey};
 
 #[cfg(not(feature = "proved"))]
 mod stand_in {
-    use anhkhovet::raw;
     use plain::{Described, Extent, Written};
 
     pub fn collapse(lower: &[u8], upper: &[u8], out: &mut [u8]) -> Written {
@@ -59,6 +62,6 @@ mod stand_in {
 
 #[cfg(not(feature = "proved"))]
 pub use {
-    plain::{chain, check, lookup},
+    plain::{chain, check, lookup, survey},
     stand_in::{collapse, describe},
 };

@@ -36,6 +36,19 @@ pub fn best<T>(rounds: u32, mut call: impl FnMut() -> T) -> Duration {
     }
 }
 
+/// The least time of each of some calls that take turns, so that what else the machine does falls on all alike.
+pub fn in_turn<const N: usize>(rounds: u32, calls: [&dyn Fn(); N]) -> [Duration; N] {
+    let mut least = [Duration::MAX; N];
+    for _ in 0..rounds {
+        for (call, least) in calls.iter().zip(&mut least) {
+            let start = Instant::now();
+            call();
+            *least = start.elapsed().min(*least);
+        }
+    }
+    least
+}
+
 /// The compiler has to take `value` for looked at, so that what led to it is not left out. std's black_box came with Rust 1.66.
 pub fn keep<T>(value: &T) {
     // SAFETY: no instruction; that memory may be read is all the compiler is told.
@@ -56,4 +69,8 @@ fn the_least_counts() {
     assert_eq!(measured, Ok(Duration::from_millis(2)));
     assert_eq!(opaque(7), 7);
     assert!(best(2, || 1) < Duration::from_secs(1));
+    let calls = std::cell::Cell::new(0);
+    let [first, second] = in_turn(3, [&|| calls.set(calls.get() + 1), &|| ()]);
+    assert!(first < Duration::from_secs(1) && second < Duration::from_secs(1));
+    assert_eq!(calls.get(), 3);
 }

@@ -18,6 +18,7 @@ pub struct Target {
 
 pub enum Task {
     Check(Vec<PathBuf>),
+    Survey(Vec<PathBuf>),
     Sector(Vec<PathBuf>, u64),
     Read(Vec<PathBuf>, u64, Option<Target>),
     Map(Vec<PathBuf>),
@@ -52,6 +53,7 @@ fn task(name: &str, given: &ArgMatches) -> Option<Task> {
     };
     Some(match name {
         "check" => Task::Check(files),
+        "survey" => Task::Survey(files),
         "sector" => Task::Sector(files, sector()?),
         "read" => Task::Read(files, sector()?, target().filter(|to| !stream(&to.path))),
         "map" => Task::Map(files),
@@ -81,7 +83,8 @@ pub fn stream(path: &Path) -> bool {
 /// Why a stream cannot be what a task takes it for, or nothing.
 fn misused(task: &Task) -> Option<&'static str> {
     let input = match task {
-        Task::Check(files) | Task::Map(files) | Task::Digest(files, _) => files,
+        Task::Check(files) | Task::Survey(files) => files,
+        Task::Map(files) | Task::Digest(files, _) => files,
         Task::Sector(files, _) | Task::Read(files, ..) | Task::Compare(files, _) => files,
         Task::Collapse(files, _) => files,
         Task::Normal(file, _) => std::slice::from_ref(file),

@@ -72,16 +72,26 @@ pub fn command() -> Command {
                 .help("Answer with one JSON object")
                 .action(ArgAction::SetTrue),
         );
-    writing(describing(digesting(reading(command))))
+    writing(describing(digesting(reading(judging(command)))))
 }
 
-fn reading(command: Command) -> Command {
+fn judging(command: Command) -> Command {
+    let images = || files("The images, each judged by itself");
     command
         .subcommand(
             subcommand("check")
                 .about("Says whether images meet every layout rule")
-                .arg(files("The images, each judged by itself")),
+                .arg(images()),
         )
+        .subcommand(
+            subcommand("survey")
+                .about("Counts the grains of images by kind, with totals and a tally of refusals")
+                .arg(images()),
+        )
+}
+
+fn reading(command: Command) -> Command {
+    command
         .subcommand(
             subcommand("sector")
                 .about("Says where a sector comes from: layer, kind, file sector, byte offset")

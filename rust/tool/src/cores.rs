@@ -1,6 +1,7 @@
 //! Work on all cores, its results taken in the order of the jobs.
 
 use crate::failure::Failure;
+use crate::worker::STACK;
 use std::collections::VecDeque;
 use std::num::NonZeroUsize;
 use std::sync::mpsc::{channel, Receiver, Sender};
@@ -60,8 +61,9 @@ fn start<'a, J: Send + 'a, D: Send + 'a>(
 ) -> usize {
     let cores = thread::available_parallelism().map_or(1, NonZeroUsize::get);
     let started = |_: &usize| {
-        let thread = Builder::new().spawn_scoped(scope, move || serve(given, work));
-        thread.is_ok()
+        let thread = Builder::new().stack_size(STACK);
+        let started = thread.spawn_scoped(scope, move || serve(given, work));
+        started.is_ok()
     };
     (0..cores).filter(started).count()
 }

@@ -7,6 +7,7 @@ use crate::hash::{digits, Hash, Hasher, Piece};
 use crate::names;
 use crate::print::{self, Printer};
 use crate::progress::Progress;
+use crate::streams;
 use anhkhovet::Disk;
 use serde_json::{json, Value};
 use std::io::Write;
@@ -92,7 +93,7 @@ impl<'a> Digests<'a> {
     ) -> Result<(), Failure> {
         let files = self.layers.files();
         // Lines on a terminal are progress enough, and a bar would stand between them.
-        let progress = if stdout_is_terminal() {
+        let progress = if streams::output_is_terminal() {
             None
         } else {
             Some(Progress::start("digesting", self.capacity))
@@ -169,9 +170,4 @@ pub fn print(paths: &[PathBuf], grains: bool, json: bool) -> Result<(), Failure>
     let mut printer = Printer::new();
     digests.print(grains, &mut printer)?;
     printer.done()
-}
-
-fn stdout_is_terminal() -> bool {
-    // SAFETY: a plain call.
-    unsafe { libc::isatty(libc::STDOUT_FILENO) == 1 }
 }

@@ -53,6 +53,14 @@ impl Refusal {
         }
     }
 
+    fn reason(&self) -> String {
+        let mut reason = self.why.to_string();
+        if !self.detail.is_empty() {
+            reason += &format!(" ({})", self.detail);
+        }
+        reason
+    }
+
     pub fn json(&self) -> Value {
         let mut object = json!({
             "number": self.why.number,
@@ -101,6 +109,28 @@ impl Failure {
         }
     }
 
+    /// The one file that it is about.
+    fn file(&self) -> Option<&Path> {
+        match self {
+            Failure::Refused(refusal) => refusal.file.as_deref(),
+            Failure::System(file, ..) | Failure::Unfit(file, _) => Some(file),
+            Failure::Lacking(file, _) | Failure::Misused(file, _) => Some(file),
+            Failure::Print(_) | Failure::Told(_) => None,
+        }
+    }
+
+    /// The same in words, without the file's name.
+    pub fn reason(&self) -> String {
+        match self {
+            Failure::Refused(refusal) => refusal.reason(),
+            Failure::System(_, tried, error) => format!("{tried}: {error}"),
+            Failure::Lacking(_, why) | Failure::Misused(_, why) => why.to_string(),
+            Failure::Unfit(_, why) => why.clone(),
+            Failure::Print(error) => format!("standard output: {error}"),
+            Failure::Told(_) => String::new(),
+        }
+    }
+
     /// One object: `refused` by document 01's rules, `failed` for all else.
     pub fn json(&self) -> Value {
         match self {
@@ -110,30 +140,11 @@ impl Failure {
     }
 }
 
-impl fmt::Display for Refusal {
-    fn fmt(&self, to: &mut fmt::Formatter) -> fmt::Result {
-        if let Some(file) = &self.file {
-            write!(to, "{}: ", name(file))?;
-        }
-        self.why.fmt(to)?;
-        if !self.detail.is_empty() {
-            write!(to, " ({})", self.detail)?;
-        }
-        Ok(())
-    }
-}
-
 impl fmt::Display for Failure {
     fn fmt(&self, to: &mut fmt::Formatter) -> fmt::Result {
-        match self {
-            Failure::Refused(refusal) => refusal.fmt(to),
-            Failure::System(file, tried, error) => write!(to, "{}: {tried}: {error}", name(file)),
-            Failure::Lacking(file, why) | Failure::Misused(file, why) => {
-                write!(to, "{}: {why}", name(file))
-            }
-            Failure::Unfit(file, why) => write!(to, "{}: {why}", name(file)),
-            Failure::Print(error) => write!(to, "standard output: {error}"),
-            Failure::Told(_) => Ok(()),
+        if let Some(file) = self.file() {
+            write!(to, "{}: ", name(file))?;
         }
+        to.write_str(&self.reason())
     }
 }

@@ -37,6 +37,8 @@ mod sector;
 mod signals;
 mod source;
 mod streams;
+mod survey;
+mod table;
 mod worker;
 mod write;
 mod writeback;
@@ -48,6 +50,7 @@ use std::process::exit;
 fn run(task: Task, json: bool) -> Result<(), Failure> {
     match task {
         Task::Check(files) => check::check(&files, json),
+        Task::Survey(files) => survey::survey(&files, json),
         Task::Sector(files, sector) => sector::sector(&files, sector, json),
         Task::Read(files, sector, target) => sector::read(&files, sector, target, json),
         Task::Map(files) => map::map(&files, json),

@@ -39,3 +39,9 @@ pub fn input() -> io::Result<File> {
 pub fn output() -> io::Result<ManuallyDrop<File>> {
     stream(libc::STDOUT_FILENO, &OUTPUT_CLOSED).map(ManuallyDrop::new)
 }
+
+/// What is printed is seen at once.
+pub fn output_is_terminal() -> bool {
+    // SAFETY: a plain call.
+    unsafe { libc::isatty(libc::STDOUT_FILENO) == 1 }
+}

@@ -6,7 +6,7 @@ use crate::signals::Attending;
 use std::thread;
 
 /// As much as shells usually leave the first thread; a check takes 1,031 KiB.
-const STACK: usize = 8 << 20;
+pub const STACK: usize = 8 << 20;
 
 /// Runs the command to its status.
 pub fn run(command: fn() -> i32) -> i32 {

@@ -178,7 +178,8 @@ fn nothing_comes_through(folder: &Folder, words: &[&[u8]]) {
 fn no_command_hands_a_name_on_as_it_is() {
     let folder = folder();
     for name in ODD {
-        let sentences: [&[&[u8]]; 8] = [
+        let sentences: [&[&[u8]]; 9] = [
+            &[b"survey", name],
             &[b"sector", name, b"2"],
             &[b"sector", name, b"9999"],
             &[b"map", name, name],
@@ -202,7 +203,9 @@ fn no_complaint_hands_a_name_on_as_it_is() {
         let missing = [b"missing-", name].concat();
         let list = [b"--list=", &missing[..]].concat();
         let flag = [b"--flag-", name].concat();
-        let sentences: [&[&[u8]]; 13] = [
+        let sentences: [&[&[u8]]; 15] = [
+            &[b"survey", &missing],
+            &[b"survey", b"--json", &missing],
             &[b"sector", &missing, b"2"],
             &[b"sector", b"tool-base.vmdk", name],
             &[b"map", &missing],

@@ -183,6 +183,11 @@ fn check() {
 }
 
 #[test]
+fn survey() {
+    race(&["survey", "--json", "disk"]);
+}
+
+#[test]
 fn map() {
     race(&["map", "disk", "delta"]);
 }

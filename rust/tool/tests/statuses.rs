@@ -31,18 +31,22 @@ fn each_status_has_its_meaning() {
     for (words, wanted) in [
         ("check tool-base.vmdk", 0),
         ("digest tool-base.vmdk --list holds", 0),
+        ("survey two-gb-sparse.vmdk", 0),
         ("check two-gb-sparse.vmdk", 1),
         ("map two-gb-sparse.vmdk", 1),
         ("sector tool-base.vmdk 2048", 1),
         ("collapse tool-base.vmdk two-gb-sparse.vmdk -o out", 1),
         ("describe holds", 1),
         ("check", 2),
+        ("survey", 2),
+        ("survey -", 2),
         ("sector tool-base.vmdk two", 2),
         ("check --verbose tool-base.vmdk", 2),
         ("digest tool-base.vmdk --complete", 2),
         ("digest tool-base.vmdk --list differs", 3),
         ("digest tool-base.vmdk --list two-gb-sparse.vmdk", 3),
         ("check missing", 4),
+        ("survey missing tool-base.vmdk", 4),
         ("map missing", 4),
         ("map .", 4),
         ("digest tool-base.vmdk --list missing", 4),
@@ -101,9 +105,11 @@ fn help_tells_the_statuses() {
 }
 
 /// Every command that tells something on standard output.
-const TELLING: [&str; 13] = [
+const TELLING: [&str; 15] = [
     "check tool-base.vmdk",
     "check --json tool-base.vmdk",
+    "survey tool-base.vmdk",
+    "survey --json tool-base.vmdk",
     "sector tool-base.vmdk 2",
     "read tool-base.vmdk 2",
     "map tool-base.vmdk",
@@ -156,6 +162,7 @@ fn a_standard_error_that_is_closed_or_full_changes_no_status() {
     let folder = folder();
     for words in [
         "check missing",
+        "survey missing",
         "map missing",
         "map --json missing",
         "map two-gb-sparse.vmdk",

@@ -122,4 +122,4 @@ macro_rules! transcripts {
     };
 }
 
-transcripts!(check sector read map digest collapse normal describe refusals);
+transcripts!(check survey sector read map digest collapse normal describe refusals);

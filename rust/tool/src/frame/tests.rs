@@ -1,9 +1,10 @@
-//! Own bytes answer as the whole file does: check, lookups, places and chains of images that are whole, cut and damaged.
+//! Own bytes answer as the whole file does: check, survey, lookups, places and chains of images that are whole, cut and damaged.
 
 mod made;
 
 use crate::failure::Failure;
 use crate::files::Layers;
+use crate::survey::counted;
 use anhkhovet::{ChainRefusal, Group, Refusal};
 use made::image;
 use std::fs;
@@ -69,6 +70,9 @@ impl Met {
         let mut frame = anhkhovet::frame(whole).unwrap_or_default();
         frame.retain(|area| area.group != Group::Descriptor);
         assert_eq!(layers.frame(0), frame, "{path:?}");
+        let mut layers = Layers::one(path).expect("layers");
+        let told = layers.ask(0, counted).expect("a file");
+        assert_eq!(told, counted(whole), "{path:?}");
         let mut layers = Layers::one(path).expect("layers");
         let told = layers.ask(0, |image| anhkhovet::normal(image, &mut []));
         let wanted = anhkhovet::normal(whole, &mut []);
