@@ -50,7 +50,8 @@ def lacks(call, wrong):
             re.search(rf"pub use [^;]*\b{call}\b", text("rust/anhkhovet/src/lib.rs")),
         f"`{call}` in rust/plain": re.search(rf"pub fn {call}\(", text(plain)),
         f"`{call}` made public in rust/plain/src/lib.rs": re.search(rf"pub use [^;]*\b{call}\b", text("rust/plain/src/lib.rs")),
-        f"`{call}` in the trait of rust/compare/src/side.rs": f"fn {call}(&self" in text("rust/compare/src/side.rs"),
+        f"`{call}` in the trait of rust/compare/src/side.rs":
+            re.search(rf"fn {call}\(\s*&self", text("rust/compare/src/side.rs")),
         f'"{call}" in the table of rust/compare/src/tally.rs': f'"{call}"' in text("rust/compare/src/tally.rs"),
         f"a generated case of rust/compare that asks `run.{call}`": f"run.{call}(" in text(compare),
         f"`anhkhovet::{call}` in rust/tool": re.search(rf"anhkhovet::{call}(_part)?\(", text("rust/tool/src/**/*.rs")),

@@ -115,6 +115,50 @@ pub fn frame(image: &[u8], room: usize) {
     frame_in(image, &mut words[0..n]);
 }
 
+// Number, place and totals, and the words of both lists.
+fn survey_in(images: &[u8], lengths: &[u64], rows: &mut [u64], tally: &mut [u64]) {
+    let told = answers::surveyed_of(survey::survey(images, lengths, &mut *rows, &mut *tally));
+    programs::start(b"survey ");
+    programs::put(told.number);
+    programs::put(told.place);
+    programs::put(told.stored);
+    programs::put(told.zero);
+    programs::put(told.absent);
+    programs::put(told.packed);
+    put_words(rows);
+    programs::end();
+    programs::start(b"tally ");
+    put_words(tally);
+    programs::end();
+}
+
+fn at_most_128(room: usize) -> usize
+    ensures { λ r. ⌜ r ≤ 128 ⌝ }
+{
+    if 128 < room {
+        return 128;
+    }
+    room
+}
+
+// Both lists hold 170 in each word before the call. A room of 1,000 more is one with a tally that is a word too short.
+pub fn survey(images: &[u8], lengths: &[u8], room: usize)
+    requires { ⌜ length (now lengths) ≤ 136 ⌝ }
+{
+    let numbers = programs::numbers_of(lengths);
+    let all: &[u64] = &numbers;
+    let n = lengths.len() / 8;
+    let mut rows = [170u64; 128];
+    let mut tally = [170u64; 66];
+    if room < 1000 {
+        let most = at_most_128(room);
+        survey_in(images, &all[0..n], &mut rows[0..most], &mut tally);
+        return;
+    }
+    let left = at_most_128(room - 1000);
+    survey_in(images, &all[0..n], &mut rows[0..left], &mut tally[0..62]);
+}
+
 pub fn normal(image: &[u8], out: &mut [u8]) {
     programs::start(b"normal ");
     fill(&mut *out);

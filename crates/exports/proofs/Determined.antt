@@ -99,7 +99,8 @@ module _ (T : Ended) where
           (fact-mono 𝓤 φ (φ × (ws ≡ last κs a)) (λ e. (e, follows κs a ws o)))))
 
     -- it says the answer and the last contents of the two slices that may be written
-    module _ (X Y : Type 0) (content : (κs : Lifetimes T) → Arguments T κs → X) (other : (κs : Lifetimes T) → Arguments T κs → Y)
+    module _ (X Y : Type 0) (content : (κs : Lifetimes T) → Arguments T κs → X)
+        (other : (κs : Lifetimes T) → Arguments T κs → Y)
         (see : (κs : Lifetimes T) → AtExit T κs → X) (seeOther : (κs : Lifetimes T) → AtExit T κs → Y)
         (put : (κs : Lifetimes T) (a : Arguments T κs) → X → Y → Lasts T κs a)
         (all : (κs : Lifetimes T) (a : Arguments T κs) (ws : Lasts T κs a)

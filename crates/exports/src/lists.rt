@@ -13,9 +13,12 @@ pub extern "C" fn anhkhovet_survey(
     tally: &mut [u64],
 ) -> Surveyed
     ensures { λ r.
-        ⌜ (r ≡ surveyed (survey (now (images .entry)) (now (lengths .entry)) (length (now (rows .entry))) (length (now (tally .entry)))))
+        ⌜ (r
+        ≡ surveyed (survey (now (images .entry)) (now (lengths .entry)) (length (now (rows .entry)))
+        (length (now (tally .entry)))))
         × ((now (rows .exit) ≡ surveyRows (now (images .entry)) (now (lengths .entry)) (now (rows .entry)) (now (tally .entry)))
-        × (now (tally .exit) ≡ surveyTally (now (images .entry)) (now (lengths .entry)) (now (rows .entry)) (now (tally .entry)))) ⌝ }
+        × (now (tally .exit)
+        ≡ surveyTally (now (images .entry)) (now (lengths .entry)) (now (rows .entry)) (now (tally .entry)))) ⌝ }
 {
     answers::surveyed_of(survey::survey(images, lengths, &mut *rows, &mut *tally))
 }

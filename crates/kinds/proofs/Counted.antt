@@ -35,7 +35,8 @@ many-none k (Sector e) = λ i. record { absent = k .absent; zero = k .zero; name
 many-more : (k : Kinds) (d : Entry) (n : ℕ) → withMany (withMany k d n) d 1 ≡ withMany k d (suc n)
 unfolding withMany
 many-more k Absent n =
-    let e : k .absent + n + 1 ≡ k .absent + suc n = omega arith in λ i. record { absent = e i; zero = k .zero; named = k .named }
+    let e : k .absent + n + 1 ≡ k .absent + suc n = omega arith in
+    λ i. record { absent = e i; zero = k .zero; named = k .named }
 many-more k Zero n =
     let e : k .zero + n + 1 ≡ k .zero + suc n = omega arith in λ i. record { absent = k .absent; zero = e i; named = k .named }
 many-more k (Sector s) n =

@@ -42,6 +42,7 @@ pub mod UsedCollapse
 pub mod NeverUsed
 pub mod NeverUsedCollapse
 pub mod FrameDecides
+pub mod SurveyCounts
 pub mod NotConstant
 pub mod ExamplesAnswers
 pub mod ExamplesChain

@@ -2,6 +2,7 @@ pub mod Layers
 pub mod Served
 pub mod Runs
 pub mod SameFrame
+pub mod RowSums
 pub mod NeverUsed
 pub mod Unused
 pub mod Images

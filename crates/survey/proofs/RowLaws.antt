@@ -131,25 +131,30 @@ module _ (s : List ℕ) (h : Header) (k : Kinds) (e : k ≡ withEntries none (gr
   pub small-packed : Checked s h → SmallRow
       (record { stored = 0; zero = k .zero; absent = k .absent; packed = k .named; number = 0; place = 0 })
   small-packed c =
-      let m = small-kinds c in record { stored = omega arith; zero = m .1; absent = m .0; packed = m .2 }
+      let m = small-kinds c in record { storedFew = omega arith; zeroFew = m .1; absentFew = m .0; packedFew = m .2 }
 
   pub small-stored : Checked s h → SmallRow
       (record { stored = k .named; zero = k .zero; absent = k .absent; packed = 0; number = 0; place = 0 })
   small-stored c =
-      let m = small-kinds c in record { stored = m .2; zero = m .1; absent = m .0; packed = omega arith }
+      let m = small-kinds c in record { storedFew = m .2; zeroFew = m .1; absentFew = m .0; packedFew = omega arith }
 
 -- a refused image adds nothing
 pub small-refused : (r : Row) (n p : ℕ) → r ≡ record { stored = 0; zero = 0; absent = 0; packed = 0; number = n; place = p }
     → SmallRow r
-small-refused r n p e = rw e (record { stored = omega arith; zero = omega arith; absent = omega arith; packed = omega arith })
+small-refused r n p e = rw e (record {
+  storedFew = omega arith;
+  zeroFew = omega arith;
+  absentFew = omega arith;
+  packedFew = omega arith;
+})
 
 pub small-more : (t : Totals) (r : Row) (k : ℕ) → SmallRow r → SmallTotals k t → SmallTotals (k + 1) (addRow t r)
 unfolding addRow
 small-more t r k row all = record {
-  stored = omega (arith, row .stored, all .stored);
-  zero = omega (arith, row .zero, all .zero);
-  absent = omega (arith, row .absent, all .absent);
-  packed = omega (arith, row .packed, all .packed);
+  storedFew = omega (arith, row .storedFew, all .storedFew);
+  zeroFew = omega (arith, row .zeroFew, all .zeroFew);
+  absentFew = omega (arith, row .absentFew, all .absentFew);
+  packedFew = omega (arith, row .packedFew, all .packedFew);
 }
 
 -- ---- at the arms of a match on the header of an accepted image

@@ -1,6 +1,6 @@
 -- The rows of images put one after the other: each premise as the loop gives it.
 use Prim.Native.Nat.{ℕ, _+_, _*_, _≤_, _<_}
-use mathlib.Core.Path.{_≡_, refl, sym, ap, _∙_}
+use mathlib.Core.Path.{_≡_, refl, _∙_}
 use mathlib.Core.List.{List}
 use native.Mathlib.Omega.{arith}
 use native.Mathlib.Numerals.{add-one}
@@ -62,4 +62,4 @@ module _ (s l : List ℕ) where
   totals-done t k n e a b = let q : k ≡ n = omega arith in rw (← q) e
 
 pub small-none : SmallTotals 0 (record { stored = 0; zero = 0; absent = 0; packed = 0 })
-small-none = record { stored = omega arith; zero = omega arith; absent = omega arith; packed = omega arith }
+small-none = record { storedFew = omega arith; zeroFew = omega arith; absentFew = omega arith; packedFew = omega arith }

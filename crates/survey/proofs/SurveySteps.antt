@@ -1,20 +1,19 @@
 -- The survey's steps, each premise as the code gives it.
 use Prim.Native.Nat.{ℕ, zero, suc, _+_, _*_, _≤_, _<_}
 use mathlib.Core.Path.{_≡_, refl, sym, ap, _∙_}
-use mathlib.Core.List.{List, [], _∷_, _++_}
+use mathlib.Core.List.{List, [], _∷_}
 use mathlib.Core.Bool.{Bool, true, false, _||_}
 use native.Mathlib.Omega.{arith}
 use lib.Dec.{ltb}
 use lib.ListN.{length, getD, drop}
 use borrow.Author.Tests.{ltb-false}
-use Rattle.base.specs.Pick.{pick}
 use Rattle.base.specs.Bytes.{over}
-use Rattle.base.specs.Rows.{rows, tabulate}
+use Rattle.base.specs.Rows.{tabulate}
 use Rattle.base.proofs.Steps.{or-no}
 use Rattle.base.proofs.Rows.{rows-same, row-at}
 use Rattle.base.proofs.Stands.{Stands, stands-left}
 use Rattle.format.specs.Chain.{lengthsBroken}
-use Rattle.format.specs.Survey.{countOf, rowAt, rowWords, rowsBelow, tallyBelow, totalsBelow, afterSurvey}
+use Rattle.format.specs.Survey.{countOf, rowAt, rowWords, rowsBelow, totalsBelow, afterSurvey}
 use Rattle.format.specs.Survey.{surveyedIfRoom, survey}
 use Rattle.format.specs.declared.Totals.{Totals}
 use Rattle.format.specs.declared.SurveyAnswer.{SurveyAnswer}

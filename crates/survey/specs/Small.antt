@@ -4,14 +4,14 @@ use Rattle.format.specs.declared.Row.{Row}
 use Rattle.format.specs.declared.Totals.{Totals}
 
 pub record SmallRow (r : Row) : Type 0 where
-  pub stored : r .stored ≤ 0x80000000
-  pub zero : r .zero ≤ 0x80000000
-  pub absent : r .absent ≤ 0x80000000
-  pub packed : r .packed ≤ 0x80000000
+  pub storedFew : r .stored ≤ 0x80000000
+  pub zeroFew : r .zero ≤ 0x80000000
+  pub absentFew : r .absent ≤ 0x80000000
+  pub packedFew : r .packed ≤ 0x80000000
 
 -- the totals of n images
 pub record SmallTotals (n : ℕ) (t : Totals) : Type 0 where
-  pub stored : t .stored ≤ n * 0x80000000
-  pub zero : t .zero ≤ n * 0x80000000
-  pub absent : t .absent ≤ n * 0x80000000
-  pub packed : t .packed ≤ n * 0x80000000
+  pub storedFew : t .stored ≤ n * 0x80000000
+  pub zeroFew : t .zero ≤ n * 0x80000000
+  pub absentFew : t .absent ≤ n * 0x80000000
+  pub packedFew : t .packed ≤ n * 0x80000000

@@ -118,7 +118,8 @@ fn put_rows(images: &[u8], lengths: &[u64], rows: &mut [u64]) -> Totals
     ensures { λ r.
         ⌜ (r ≡ totalsBelow (now (images .entry)) (now (lengths .entry)) (length (now (lengths .entry))))
         × (now (rows .exit)
-        ≡ over (now (rows .entry)) 0 (rowsBelow (now (images .entry)) (now (lengths .entry)) (length (now (lengths .entry))))) ⌝ }
+        ≡ over (now (rows .entry)) 0
+        (rowsBelow (now (images .entry)) (now (lengths .entry)) (length (now (lengths .entry))))) ⌝ }
 {
     let mut totals = Totals {
         stored: 0,

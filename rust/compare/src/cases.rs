@@ -4,7 +4,7 @@ use crate::image::{build, damage, suited, Built, Plan, Shape};
 use crate::rng::Rng;
 use crate::run::Run;
 use crate::tally::Call;
-use crate::{frames, lists, text};
+use crate::{frames, lists, surveys, text};
 use plain::Extent;
 
 /// The numbers on a program's command line: COUNT, SEED and first CASE.
@@ -39,7 +39,8 @@ pub fn run_cases(run: &mut Run, seed: u64, first: u64, count: u64) {
 pub fn case(run: &mut Run, rng: &mut Rng, number: u64) {
     let which = number / 16;
     match number % 16 {
-        0..=6 => image_case(run, rng, which),
+        0..=5 => image_case(run, rng, which),
+        6 if run.compares(Call::Survey) => surveys::case(run, rng, which),
         7..=9 => chain_case(run, rng, which),
         10 | 11 if run.compares(Call::Collapse) => collapse_case(run, rng, which),
         12..=14 if run.compares(Call::Descriptor) => text_case(run, rng, which),
@@ -49,7 +50,7 @@ pub fn case(run: &mut Run, rng: &mut Rng, number: u64) {
 }
 
 /// A sound image, or one with a damage or two.
-fn made(rng: &mut Rng, plan: Plan, which: u64, damages: u64) -> Built {
+pub fn made(rng: &mut Rng, plan: Plan, which: u64, damages: u64) -> Built {
     let fits = damages > 0 && !rng.one_in(8);
     let plan = if fits { suited(plan, which) } else { plan };
     let shape = Shape::choose(rng, plan);

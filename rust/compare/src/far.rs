@@ -1,9 +1,9 @@
 //! Images of more than 4 GiB, nearly all of it never touched: areas about file sectors 2^22 and 2^23, and past them.
 
-use crate::frames;
 use crate::image::put;
 use crate::rng::Rng;
 use crate::run::Run;
+use crate::{frames, surveys};
 
 /// The longest image, in sectors.
 pub const MOST: u64 = (1 << 23) + (1 << 12);
@@ -83,6 +83,9 @@ fn far_case(run: &mut Run, memory: &mut [u8], rng: &mut Rng) {
         run.read(image, rng.below(capacity));
     }
     frames::ask(run, rng, image);
+    // What is cut off is an image by itself.
+    let cut = rng.pick(&[0, 1, 512, 1 << 32]);
+    surveys::ask(run, rng, image, &[image.len() as u64 - cut, cut]);
     for (at, size) in touched {
         memory[at..at + size].fill(0);
     }

@@ -72,7 +72,7 @@ fn needed(image: &[u8]) -> u64 {
 }
 
 /// A list's length: exact, a word short, longer, or anything.
-fn room(rng: &mut Rng, needed: u64) -> u64 {
+pub fn room(rng: &mut Rng, needed: u64) -> u64 {
     match rng.below(6) {
         0 | 1 => needed,
         2 | 3 => needed.saturating_sub(1),

@@ -8,6 +8,7 @@ mod lists;
 pub mod rng;
 pub mod run;
 pub mod side;
+mod surveys;
 pub mod tally;
 mod text;
 

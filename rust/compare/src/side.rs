@@ -1,6 +1,6 @@
 //! The two sides behind one trait. Answers are the plain side's structs.
 
-use plain::{Described, Extent, Found, Framed, Head, Located, Part, Verdict, Written};
+use plain::{Described, Extent, Found, Framed, Head, Located, Part, Surveyed, Verdict, Written};
 
 pub trait Side {
     fn check(&self, image: &[u8]) -> Verdict;
@@ -9,6 +9,13 @@ pub trait Side {
     fn chain(&self, layers: &[u8], lengths: &[u64], sector: u64) -> Located;
     fn read(&self, image: &[u8], sector: u64) -> Part;
     fn frame(&self, image: &[u8], list: &mut [u64]) -> Framed;
+    fn survey(
+        &self,
+        images: &[u8],
+        lengths: &[u64],
+        rows: &mut [u64],
+        tally: &mut [u64],
+    ) -> Surveyed;
     fn normal(&self, image: &[u8], out: &mut [u8]) -> Written;
     fn collapse(&self, lower: &[u8], upper: &[u8], out: &mut [u8]) -> Written;
     fn descriptor(&self, text: &[u8], list: &mut [Extent]) -> Described;
@@ -36,6 +43,15 @@ impl Side for Plain {
     }
     fn frame(&self, image: &[u8], list: &mut [u64]) -> Framed {
         plain::frame(image, list)
+    }
+    fn survey(
+        &self,
+        images: &[u8],
+        lengths: &[u64],
+        rows: &mut [u64],
+        tally: &mut [u64],
+    ) -> Surveyed {
+        plain::survey(images, lengths, rows, tally)
     }
     fn normal(&self, image: &[u8], out: &mut [u8]) -> Written {
         plain::over(plain::normal(image, out.len()), out)
@@ -87,6 +103,15 @@ mod proved {
         }
         fn frame(&self, image: &[u8], list: &mut [u64]) -> Framed {
             same!(raw::frame(image, list) => Framed { number, place, count })
+        }
+        fn survey(
+            &self,
+            images: &[u8],
+            lengths: &[u64],
+            rows: &mut [u64],
+            tally: &mut [u64],
+        ) -> Surveyed {
+            same!(raw::survey(images, lengths, rows, tally) => Surveyed { number, place, stored, zero, absent, packed })
         }
         fn normal(&self, image: &[u8], out: &mut [u8]) -> Written {
             same!(raw::normal(image, out) => Written { number, place, length })

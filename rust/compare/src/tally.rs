@@ -10,6 +10,7 @@ pub enum Call {
     Chain,
     Read,
     Frame,
+    Survey,
     Normal,
     Collapse,
     Descriptor,
@@ -18,13 +19,14 @@ pub enum Call {
 
 use Call::*;
 
-const CALLS: [(Call, &str); 10] = [
+const CALLS: [(Call, &str); 11] = [
     (Check, "check"),
     (Header, "header"),
     (Lookup, "lookup"),
     (Chain, "chain"),
     (Read, "read"),
     (Frame, "frame"),
+    (Survey, "survey"),
     (Normal, "normal"),
     (Collapse, "collapse"),
     (Descriptor, "descriptor"),
@@ -39,31 +41,33 @@ impl Call {
 }
 
 /// Kinds of answers, with the calls that can give them.
-const ANSWERS: [(&str, &[Call]); 21] = [
-    ("accepted KDMV", &[Check, Header, Frame]),
-    ("accepted COWD", &[Check, Header, Frame]),
-    ("accepted, footer", &[Check, Header, Frame]),
-    ("accepted, redundant", &[Check, Header, Frame]),
-    ("accepted, descriptor", &[Check, Header, Frame]),
-    ("accepted, packed", &[Check, Header, Frame]),
-    ("accepted, n above 1", &[Check, Header, Frame]),
-    ("accepted, odd length", &[Check, Header, Frame]),
-    ("absent", &[Lookup, Chain]),
-    ("zero", &[Lookup, Chain]),
-    ("stored", &[Lookup, Chain, Read]),
-    ("packed", &[Lookup, Chain, Read]),
+const ANSWERS: [(&str, &[Call]); 23] = [
+    ("accepted KDMV", &[Check, Header, Frame, Survey]),
+    ("accepted COWD", &[Check, Header, Frame, Survey]),
+    ("accepted, footer", &[Check, Header, Frame, Survey]),
+    ("accepted, redundant", &[Check, Header, Frame, Survey]),
+    ("accepted, descriptor", &[Check, Header, Frame, Survey]),
+    ("accepted, packed", &[Check, Header, Frame, Survey]),
+    ("accepted, n above 1", &[Check, Header, Frame, Survey]),
+    ("accepted, odd length", &[Check, Header, Frame, Survey]),
+    ("absent", &[Lookup, Chain, Survey]),
+    ("zero", &[Lookup, Chain, Survey]),
+    ("stored", &[Lookup, Chain, Read, Survey]),
+    ("packed", &[Lookup, Chain, Read, Survey]),
     ("under the top layer", &[Chain]),
     ("empty part", &[Read]),
     ("no table", &[Frame]),
     ("refused by the check", &[Frame]),
-    ("written, exact room", &[Frame, Normal, Collapse]),
-    ("written, room left", &[Frame, Normal, Collapse]),
+    ("image of no bytes", &[Survey]),
+    ("1,024 images", &[Survey]),
+    ("written, exact room", &[Frame, Survey, Normal, Collapse]),
+    ("written, room left", &[Frame, Survey, Normal, Collapse]),
     ("described", &[Descriptor]),
     ("described, 32 extents", &[Descriptor]),
     ("found", &[Find]),
 ];
 
-/// The refusals of document 01, with the calls that can give them; 37 is the program's own.
+/// The refusals of document 01, with the calls that can give them, a survey in its rows too; 37 is the program's own.
 fn gives(number: u64, call: Call) -> bool {
     match call {
         Check => (1..=12).contains(&number),
@@ -72,6 +76,7 @@ fn gives(number: u64, call: Call) -> bool {
         Chain => (1..=10).contains(&number) || [20, 22, 24].contains(&number),
         Read => false,
         Frame => (1..=8).contains(&number) || number == 21,
+        Survey => (1..=12).contains(&number) || [21, 24].contains(&number),
         Normal => (1..=12).contains(&number) || [21, 23].contains(&number),
         Collapse => (1..=12).contains(&number) || (21..=23).contains(&number),
         Descriptor => (30..=36).contains(&number) || number == 21,

@@ -4,7 +4,7 @@ use crate::image::{build, suited, unused, Built, Cell, Plan, Shape, What};
 use crate::rng::Rng;
 use crate::text;
 use plain::{
-    check, collapse, descriptor, frame, lookup, normal, read, ABSENT, PACKED, STORED, ZERO,
+    check, collapse, descriptor, frame, lookup, normal, read, survey, ABSENT, PACKED, STORED, ZERO,
 };
 use std::collections::BTreeSet;
 
@@ -110,6 +110,40 @@ fn frames_have_what_was_built() {
         assert_eq!(list, expected, "{case}: {:?}", built.shape);
     }
     assert_eq!(groups.len(), 8, "{groups:?}");
+}
+
+#[test]
+fn surveys_count_what_was_built() {
+    for case in 0..600 {
+        let rng = &mut Rng::new(10, case);
+        let built = sound(rng, suited(any(100), case));
+        let shape = &built.shape;
+        let mut counts = [0; 4];
+        for index in 0..shape.entries() {
+            let grains = shape.grains_of(index);
+            let one = !shape.cowd && (shape.ones == 1 || (shape.ones == 2 && index % 2 == 1));
+            let cells = match shape.tables.get(&index) {
+                None => {
+                    counts[if one { 1 } else { 2 }] += grains;
+                    continue;
+                }
+                Some(cells) => cells,
+            };
+            counts[2] += grains - cells.len() as u64;
+            for cell in cells.values() {
+                counts[match cell {
+                    Cell::Stored => 0,
+                    Cell::Zero => 1,
+                    Cell::Packed(_) => 3,
+                }] += 1;
+            }
+        }
+        let (mut row, mut tally) = ([7; 6], [7; 63]);
+        let lengths = [built.bytes.len() as u64];
+        survey(&built.bytes, &lengths, &mut row, &mut tally);
+        assert_eq!(row[..4], counts, "{case}: {shape:?}");
+        assert_eq!((&row[4..], tally), (&[0, 0][..], [0; 63]), "{case}");
+    }
 }
 
 /// The bytes of a sector, or whether it is absent or zero.

@@ -1,10 +1,12 @@
 //! A side with one deliberate mistake must be caught, each of document 01's "mistakes to shut out" among them.
 
+mod miscounts;
+
 use compare::cases::run_cases;
 use compare::run::Run;
 use compare::side::{Plain, Side};
 use compare::tally::{Call, Tally};
-use plain::{Described, Extent, Found, Framed, Head, Located, Part, Verdict, Written};
+use plain::{Described, Extent, Found, Framed, Head, Located, Part, Surveyed, Verdict, Written};
 use std::path::PathBuf;
 
 /// The plain side with one mistake.
@@ -22,6 +24,15 @@ enum Mistake {
     CopiesJudged,
     WordPastTheLast,
     WordOnRefusal,
+    LastGrainLeftOut,
+    EntryAsOneGrain,
+    RefusedInTotals,
+    NumberAtItsOwnWord,
+    TallyAddedTo,
+    ListsBefore21,
+    WordPastTheRows,
+    SumThatWraps,
+    OneImageTooMany,
     BytePastTheResult,
     ByteOnRefusal,
     LowerOverUpper,
@@ -68,10 +79,8 @@ impl Side for Mistake {
             let bytes: u64 = lengths[..below].iter().sum();
             located = Plain.chain(&layers[..bytes as usize], &lengths[..below], sector);
         }
-        let sum = lengths
-            .iter()
-            .fold(0, |sum: u64, next| sum.wrapping_add(*next));
-        if *self == LengthsThatWrap && located.number == 24 && sum == layers.len() as u64 {
+        let wraps = wrapped(lengths) == layers.len() as u64;
+        if *self == LengthsThatWrap && located.number == 24 && wraps {
             located.number = 1;
         }
         located
@@ -105,6 +114,35 @@ impl Side for Mistake {
             *word = word.wrapping_add(1);
         }
         framed
+    }
+
+    fn survey(
+        &self,
+        images: &[u8],
+        lengths: &[u64],
+        rows: &mut [u64],
+        tally: &mut [u64],
+    ) -> Surveyed {
+        let before = tally.to_vec();
+        let mut surveyed = Plain.survey(images, lengths, rows, tally);
+        match (self, surveyed.number) {
+            (NumberAtItsOwnWord, 0) => tally[..63].rotate_right(1),
+            (TallyAddedTo, 0) => {
+                for (word, held) in tally[..63].iter_mut().zip(before) {
+                    *word = word.wrapping_add(held);
+                }
+            }
+            (WordPastTheRows, 0) => rows[6 * lengths.len()..].fill(0),
+            (ListsBefore21, 21) => {
+                rows.fill(0);
+                tally.fill(0);
+            }
+            (OneImageTooMany, 24) if lengths.len() == 1025 => surveyed.number = 21,
+            (SumThatWraps, 24) if wrapped(lengths) == images.len() as u64 => surveyed.number = 21,
+            (_, 0) => self.miscount(images, lengths, rows, &mut surveyed),
+            _ => {}
+        }
+        surveyed
     }
 
     fn normal(&self, image: &[u8], out: &mut [u8]) -> Written {
@@ -147,6 +185,37 @@ impl Side for Mistake {
     }
 }
 
+impl Mistake {
+    /// Grains left out of accepted images' rows and the totals, or a refused image's in the totals.
+    fn miscount(self, images: &[u8], lengths: &[u64], rows: &mut [u64], totals: &mut Surveyed) {
+        let parts = miscounts::parts(images, lengths);
+        for (image, row) in parts.into_iter().zip(rows.chunks_mut(6)) {
+            let lost = match (self, row[4]) {
+                (LastGrainLeftOut, 0) => miscounts::last_grain(image),
+                (EntryAsOneGrain, 0) => miscounts::without_table(image),
+                (RefusedInTotals, 8..=12) => {
+                    totals.absent += 1;
+                    continue;
+                }
+                _ => continue,
+            };
+            for (count, lost) in row.iter_mut().zip(lost) {
+                *count -= lost;
+            }
+            totals.stored -= lost[0];
+            totals.zero -= lost[1];
+            totals.absent -= lost[2];
+            totals.packed -= lost[3];
+        }
+    }
+}
+
+/// The sum of lengths, as u64 adds.
+fn wrapped(lengths: &[u64]) -> u64 {
+    let add = |sum: u64, next: &u64| sum.wrapping_add(*next);
+    lengths.iter().fold(0, add)
+}
+
 fn tally(mistake: Mistake, count: u64) -> Tally {
     let mut run = Run::new([&mistake, &Plain], Call::all(), PathBuf::new());
     run.quiet = true;
@@ -168,6 +237,15 @@ fn each_mistake_is_caught() {
         CopiesJudged,
         WordPastTheLast,
         WordOnRefusal,
+        LastGrainLeftOut,
+        EntryAsOneGrain,
+        RefusedInTotals,
+        NumberAtItsOwnWord,
+        TallyAddedTo,
+        ListsBefore21,
+        WordPastTheRows,
+        SumThatWraps,
+        OneImageTooMany,
         BytePastTheResult,
         ByteOnRefusal,
         LowerOverUpper,

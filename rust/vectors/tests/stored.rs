@@ -20,7 +20,21 @@ fn stored_files() {
 #[test]
 fn small_input() {
     let input = std::fs::read(root().join("crates/cases/stdin")).unwrap();
-    assert!(input.len() <= 1_500_000, "{} bytes", input.len());
+    assert!(input.len() <= 1_600_000, "{} bytes", input.len());
+}
+
+/// The stored surveys have images of each refusal number of the check.
+#[test]
+fn every_refusal_tallied() {
+    let output = std::fs::read_to_string(root().join("crates/cases/stdout")).unwrap();
+    let tallies = output
+        .lines()
+        .filter_map(|line| line.strip_prefix("tally "));
+    let words: Vec<Vec<&str>> = tallies.map(|words| words.split(' ').collect()).collect();
+    for number in 1..=12 {
+        let counted = |words: &Vec<&str>| !["0", "170"].contains(&words[number - 1]);
+        assert!(words.iter().any(counted), "no image refused {number}");
+    }
 }
 
 /// The stored cases reach each refusal that a call can give. 36 needs a longer text: tests/cases/texts has it.
@@ -34,6 +48,7 @@ fn every_refusal() {
         ("lookup", (0..=10).chain([20]).collect()),
         ("chain", (0..=10).chain([20, 22, 24]).collect()),
         ("frame", (0..=8).chain([21]).collect()),
+        ("survey", vec![0, 21, 24]),
         ("normal", check.iter().copied().chain([21, 23]).collect()),
         (
             "collapse",

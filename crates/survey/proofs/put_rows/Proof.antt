@@ -50,7 +50,8 @@ put-rows-spec =
       search image-ends,
       search needs,
       totals-more _ _ _ _ _ _ (l .loop .inv .4) (row .row-at .ensures .0) (put .before .before .with-row .ensures .0),
-      rows-more (first .args .images .now) (first .args .lengths .now) (l .loop .inv .5) (first .pre .1) (row .before .loop-test .taken) _
+      rows-more (first .args .images .now) (first .args .lengths .now) (l .loop .inv .5) (first .pre .1)
+          (row .before .loop-test .taken) _
           (row .row-at .ensures .0) (put .put-row .ensures),
     ))
     (λ same-length. search needs)

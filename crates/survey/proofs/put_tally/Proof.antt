@@ -1,5 +1,5 @@
 use Prim.Native.Nat.{_+_, _-_, _*_, _≤_}
-use mathlib.Core.Path.{_≡_, refl, _∙_}
+use mathlib.Core.Path.{_≡_, refl}
 use lib.ListN.{length, getD, length-set}
 use Rattle.base.specs.Bytes.{over}
 use Rattle.base.specs.Rows.{tabulate}

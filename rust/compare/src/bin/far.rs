@@ -11,7 +11,13 @@ use std::process::exit;
 
 fn main() {
     let [count, seed, first] = numbers("far", 10_000);
-    let calls = vec![Call::Check, Call::Lookup, Call::Read, Call::Frame];
+    let calls = vec![
+        Call::Check,
+        Call::Lookup,
+        Call::Read,
+        Call::Frame,
+        Call::Survey,
+    ];
     let folder = std::env::temp_dir().join("anhkhovet-differences");
     let mut run = Run::new([tested(), &Plain], calls, folder);
     // Inputs of 4 GiB are not saved: their case is printed, and running it again makes them.

@@ -1,6 +1,7 @@
 //! The lines that the program prints for a case: a call and the numbers of its answer.
 
-use super::{Case, CHAIN, COLLAPSE, FIND, FRAME, IMAGE, MOST_WORDS, SEARCHED, TEXT};
+use super::{Case, CHAIN, COLLAPSE, FIND, FRAME, IMAGE, SEARCHED, SURVEY, TEXT};
+use super::{MOST_ROWS, MOST_WORDS, SHORT, SHORT_TALLY, TALLY};
 use crate::input::Input;
 use crate::numbers::{described, digest, extent, found, handed_over, line, located};
 use plain::{Extent, Refusal};
@@ -12,6 +13,7 @@ impl Case {
             COLLAPSE => self.collapse_lines(),
             TEXT => self.text_lines(),
             FRAME => vec![self.frame_line()],
+            SURVEY => self.survey_lines(),
             _ => Vec::new(),
         };
         for sector in &self.sectors {
@@ -86,6 +88,22 @@ impl Case {
         let f = plain::frame(&self.bytes, &mut list);
         let answer = line("frame ", &[f.number, f.place, f.count]);
         line(&answer, &list)
+    }
+
+    /// The survey's answer and the whole list of rows, then the whole tally; all words were 170 before.
+    fn survey_lines(&self) -> Vec<String> {
+        let (room, words) = match self.room.checked_sub(SHORT) {
+            None => (self.room, TALLY),
+            Some(left) => (left, SHORT_TALLY),
+        };
+        let mut rows = vec![170; MOST_ROWS.min(room as usize)];
+        let mut tally = vec![170; words];
+        let s = plain::survey(&self.bytes, &self.lengths, &mut rows, &mut tally);
+        let answer = [s.number, s.place, s.stored, s.zero, s.absent, s.packed];
+        vec![
+            line(&line("survey ", &answer), &rows),
+            line("tally ", &tally),
+        ]
     }
 
     fn text_lines(&self) -> Vec<String> {

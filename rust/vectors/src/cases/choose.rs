@@ -1,7 +1,7 @@
 //! Which cases are stored: real images from samples, and generated ones that reach each answer of each call.
 
 use super::record::Recorder;
-use super::{Case, FIND, FRAME, IMAGE, TEXT};
+use super::{Case, FIND, FRAME, IMAGE, SURVEY, TEXT};
 use compare::cases::case;
 use compare::rng::Rng;
 use compare::run::Run;
@@ -17,6 +17,8 @@ const TRIED: u64 = 20_000;
 /// The program's limits.
 const MOST_LAYERS: usize = 17;
 const MOST_ROOM: u64 = 65_536;
+/// What a word of a list holds before a call, as it is printed.
+const HELD: &str = "170";
 
 /// Samples small enough to be stored a second time.
 const SAMPLES: [&str; 3] = ["cowd-s001", "vmdkstream", "stream-optimized-data"];
@@ -59,7 +61,7 @@ fn generated() -> Vec<Case> {
     let mut chosen = Vec::new();
     for case in candidates() {
         let lines = case.lines();
-        let answers: Vec<String> = lines.iter().map(|line| kind(&case, line)).collect();
+        let answers: Vec<String> = lines.iter().flat_map(|line| kinds(&case, line)).collect();
         let seldom = |answer: &String| {
             reached
                 .get(answer)
@@ -80,6 +82,7 @@ fn wanted(case: &Case, answer: &str) -> u64 {
     let refused = !answer.contains(" 0 ");
     match (is_short(case), refused) {
         (true, _) => 15,
+        (false, _) if case.asked == SURVEY => 1,
         (false, true) => 2,
         // By all its groups one is enough.
         (false, false) if case.asked == FRAME => 1,
@@ -112,6 +115,17 @@ fn fits(case: &Case) -> bool {
     case.bytes.len() <= most && case.lengths.len() <= MOST_LAYERS && case.room <= MOST_ROOM
 }
 
+/// What kinds of answers a line has: a tally one for each refusal number, any other line one.
+fn kinds(case: &Case, line: &str) -> Vec<String> {
+    let counts = match line.strip_prefix("tally ") {
+        Some(counts) => counts.split(' ').enumerate(),
+        None => return vec![kind(case, line)],
+    };
+    let some = counts.filter(|(_, count)| !["", "0", HELD].contains(count));
+    some.map(|(word, _)| format!("tally {}", word + 1))
+        .collect()
+}
+
 /// What kind of answer a line is: its call, its number and what else tells it from others.
 fn kind(case: &Case, line: &str) -> String {
     let words: Vec<&str> = line.split(' ').collect();
@@ -132,6 +146,13 @@ fn kind(case: &Case, line: &str) -> String {
             groups.truncate(words[3].parse().unwrap_or(0));
             groups.dedup();
             format!("{call} {number} {cowd} {}", groups.concat())
+        }
+        "survey" if number == "0" => {
+            // By the kinds of grains among its totals.
+            let some = words[3..7]
+                .iter()
+                .map(|count| u64::from(*count != "0").to_string());
+            format!("{call} {number} {}", some.collect::<String>())
         }
         "normal" | "collapse" | "descriptor" | "find" => format!("{call} {number}"),
         _ => format!("{call} {number} {cowd}"),

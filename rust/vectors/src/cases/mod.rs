@@ -25,9 +25,16 @@ const FIND: u64 = 4;
 
 /// The frame, in a list of as many words as the room says, `MOST_WORDS` at most.
 const FRAME: u64 = 6;
+/// The survey, with as many words for rows as the room says, `MOST_ROWS` at most, and `TALLY` words. A room of `SHORT` more is
+/// one with a tally that is a word too short.
+const SURVEY: u64 = 7;
 
 const SEARCHED: usize = 32;
 const MOST_WORDS: usize = 96;
+const MOST_ROWS: usize = 128;
+const TALLY: usize = 66;
+const SHORT: u64 = 1000;
+const SHORT_TALLY: usize = 62;
 
 #[derive(Clone, Debug, Default, PartialEq, Eq)]
 pub struct Case {

@@ -1,9 +1,11 @@
 //! The generators of `compare`, listened to: a side that keeps what it is asked and answers as the plain one does.
 
-use super::{Case, CHAIN, COLLAPSE, FIND, FRAME, IMAGE, SEARCHED, TEXT};
+use super::{
+    Case, CHAIN, COLLAPSE, FIND, FRAME, IMAGE, SEARCHED, SHORT, SHORT_TALLY, SURVEY, TEXT,
+};
 use crate::numbers::extent;
 use compare::side::{Plain, Side};
-use plain::{Described, Extent, Found, Framed, Head, Located, Part, Verdict, Written};
+use plain::{Described, Extent, Found, Framed, Head, Located, Part, Surveyed, Verdict, Written};
 use std::cell::RefCell;
 
 #[derive(Default)]
@@ -84,6 +86,23 @@ impl Side for Recorder {
             ..Case::default()
         });
         Plain.frame(image, list)
+    }
+    fn survey(
+        &self,
+        images: &[u8],
+        lengths: &[u64],
+        rows: &mut [u64],
+        tally: &mut [u64],
+    ) -> Surveyed {
+        let short = if tally.len() <= SHORT_TALLY { SHORT } else { 0 };
+        self.keep(Case {
+            asked: SURVEY,
+            lengths: lengths.to_vec(),
+            bytes: images.to_vec(),
+            room: rows.len() as u64 + short,
+            ..Case::default()
+        });
+        Plain.survey(images, lengths, rows, tally)
     }
     fn normal(&self, image: &[u8], out: &mut [u8]) -> Written {
         self.keep(Case {

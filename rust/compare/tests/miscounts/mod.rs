@@ -1,0 +1,64 @@
+//! Surveys that count grains wrongly: what a mistake leaves out of an image's row, in the row's order.
+
+use compare::side::{Plain, Side};
+use plain::{ABSENT, PACKED, STORED};
+
+/// Stored, zero, absent, packed.
+pub type Counts = [u64; 4];
+
+/// The images of a list.
+pub fn parts<'a>(images: &'a [u8], lengths: &[u64]) -> Vec<&'a [u8]> {
+    let mut rest = images;
+    let mut parts = Vec::new();
+    for length in lengths {
+        let (part, after) = rest.split_at(*length as usize);
+        parts.push(part);
+        rest = after;
+    }
+    parts
+}
+
+/// The last grain, where capacity ends inside it.
+pub fn last_grain(image: &[u8]) -> Counts {
+    let head = Plain.header(image);
+    let mut lost = Counts::default();
+    if head.capacity % head.grain_size != 0 {
+        let column = match Plain.lookup(image, head.capacity - 1).kind {
+            STORED => 0,
+            ABSENT => 2,
+            PACKED => 3,
+            _ => 1,
+        };
+        lost[column] = 1;
+    }
+    lost
+}
+
+/// All grains but one of each directory entry that names no table.
+pub fn without_table(image: &[u8]) -> Counts {
+    let head = Plain.header(image);
+    let cowd = image.starts_with(b"COWD");
+    let per_table = if cowd { 4096 } else { 512 };
+    let mut left = (head.capacity + head.grain_size - 1) / head.grain_size;
+    let mut lost = Counts::default();
+    for entry in image[directory(image)..].chunks_exact(4) {
+        let grains = left.min(per_table);
+        match entry {
+            _ if left == 0 => break,
+            [0, 0, 0, 0] => lost[2] += grains - 1,
+            [1, 0, 0, 0] if !cowd => lost[1] += grains - 1,
+            _ => {}
+        }
+        left -= grains;
+    }
+    lost
+}
+
+/// Where the directory starts, as the frame tells.
+fn directory(image: &[u8]) -> usize {
+    let mut areas = vec![0; 3 * 4096];
+    let framed = Plain.frame(image, &mut areas);
+    assert_eq!(framed.number, 0);
+    let area = areas.chunks(3).find(|area| area[0] == 3).unwrap();
+    area[1] as usize * 512
+}
