@@ -28,7 +28,7 @@ lengthsSum (n ∷ l) = n + lengthsSum l
 abbrev pub layerAt : List ℕ → List ℕ → ℕ → List ℕ
 layerAt s lengths k = bytesAt s (lengthsSum (take k lengths)) (getD lengths k 0)
 
--- 24: there are 1 to `most` lengths, and their sum, counted exactly, is the slice's length
+-- 24 unless there are 1 to `most` lengths, and their sum, counted exactly, is the slice's length
 abbrev pub lengthsBroken : ℕ → List ℕ → List ℕ → Bool
 lengthsBroken most s lengths =
     eqb (length lengths) 0 || (ltb most (length lengths) || not (eqb (lengthsSum lengths) (length s)))

@@ -18,7 +18,7 @@ use Rattle.format.specs.declared.FrameAnswer.{FrameAnswer}
 use Rattle.format.specs.declared.FrameAnswer.the-variants.{Listed, Refused}
 
 -- ---- the list
--- areas of one group
+-- one area, and the areas of one group
 unfoldable pub toldArea : ℕ → Area → List ℕ
 toldArea group a = group ∷ a .first ∷ a .sectorCount ∷ []
 
@@ -36,7 +36,7 @@ frameWords s h =
     ++ (told 5 (primaryTables s h)
     ++ (told 6 (redundantTables s h) ++ (told 7 (footerArea s h) ++ told 8 (lastArea s h)))))))
 
--- how many areas these are
+-- the same areas, and how many they are: the words are three times as many
 unfoldable pub frameAreas : List ℕ → Header → List Area
 frameAreas s h =
     headerArea h

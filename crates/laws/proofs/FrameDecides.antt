@@ -20,7 +20,8 @@ use Rattle.format.specs.Check.{check}
 use Rattle.format.specs.Source.{sectorLookup}
 use Rattle.format.specs.Chain.{chainLookup}
 use Rattle.format.specs.Collapse.{normal, collapse}
-use Rattle.format.specs.Frame.{frameFrom, frame}
+use Rattle.format.specs.Frame.{frameFrom, frame, frameList}
+use Rattle.format.specs.Survey.{rowOf}
 use Rattle.format.specs.Judged.{Sound}
 use Rattle.format.specs.declared.Header.{Header}
 use Rattle.format.specs.declared.HeaderAnswer.{HeaderAnswer}
@@ -33,7 +34,7 @@ use Rattle.laws.specs.SameFrame.{SameBytes, SameAreas, decidingAreas, Sa
 use Rattle.laws.specs.Unused.{SameTables, SameInUse, SameUsed}
 use Rattle.laws.proofs.SameBytes.{within, number-same, areas-both, areas-row, area-there, area-named}
 use Rattle.laws.proofs.SameHeader.{SameHead, header-same, judge-same}
-use Rattle.laws.proofs.UsedAnswers.{used-check, used-lookup, used-frame}
+use Rattle.laws.proofs.UsedAnswers.{used-check, used-lookup, used-frame, used-list, used-row}
 use Rattle.laws.proofs.UsedChain.{used-chain}
 use Rattle.laws.proofs.UsedCollapse.{used-collapse, used-normal}
 
@@ -159,8 +160,17 @@ module _ (s t : List ℕ) (both : SameFrame s t) where
   pub frame-decides-lookup : (x : ℕ) → sectorLookup s x ≡ sectorLookup t x
   frame-decides-lookup = used-lookup s t decides
 
+  pub frame-decides-header : judge s ≡ judge t
+  frame-decides-header = decides .judged
+
   pub frame-decides-frame : (room : ℕ) → frame s room ≡ frame t room
   frame-decides-frame = used-frame s t decides
+
+  pub frame-decides-list : (list : List ℕ) → frameList s list ≡ frameList t list
+  frame-decides-list = used-list s t decides
+
+  pub frame-decides-row : rowOf s ≡ rowOf t
+  frame-decides-row = used-row s t decides
 
   pub frame-decides-normal : (room : ℕ) → normal s room ≡ normal t room
   frame-decides-normal = used-normal s t decides

@@ -36,6 +36,7 @@ pub mod SameBytes
 pub mod SameHeader
 pub mod Unused
 pub mod UnusedLookup
+pub mod Counts
 pub mod UsedAnswers
 pub mod UsedChain
 pub mod UsedCollapse
@@ -43,6 +44,8 @@ pub mod NeverUsed
 pub mod NeverUsedCollapse
 pub mod FrameDecides
 pub mod SurveyCounts
+pub mod SurveyRows
+pub mod FrameChecked
 pub mod NotConstant
 pub mod ExamplesAnswers
 pub mod ExamplesChain

@@ -4,10 +4,13 @@ use mathlib.Core.Path.{_≡_, refl}
 use mathlib.Core.List.{List}
 use mathlib.Core.Bool.{Bool, true, false}
 use native.Mathlib.Omega.{arith}
+use lib.ListN.{length}
 use Rattle.base.specs.Pick.{pick}
 use Rattle.format.specs.Geometry.{fileSectors}
 use Rattle.format.specs.Header.{judge}
 use Rattle.format.specs.Check.{check}
+use Rattle.format.specs.Frame.{frame, frameList}
+use Rattle.format.specs.Survey.{rowOf}
 use Rattle.format.specs.Entries.{entryAt, grainSectors, markerSize}
 use Rattle.format.specs.Source.{grainSource, lookupFrom, sectorLookup, sourceBytes, answerBytes, read}
 use Rattle.format.specs.Chain.{chainLookup}
@@ -24,7 +27,7 @@ use Rattle.laws.specs.NeverUsed.{SameSectors, SameLayers}
 use Rattle.laws.proofs.SameBytes.{number-same, part-same}
 use Rattle.laws.proofs.SameHeader.{SameHead, header-same, judge-same}
 use Rattle.laws.proofs.UnusedLookup.{SameAnswer, refused, found, InFile, unused-lookup}
-use Rattle.laws.proofs.UsedAnswers.{used-check, used-lookup}
+use Rattle.laws.proofs.UsedAnswers.{used-check, used-lookup, used-frame, used-list, used-row}
 use Rattle.laws.proofs.UsedChain.{used-chain}
 
 module _ (s t : List ℕ) (both : SameSectors s t) where
@@ -93,6 +96,12 @@ module _ (s t : List ℕ) (both : SameSectors s t) where
 
   pub never-used-lookup : (x : ℕ) → sectorLookup s x ≡ sectorLookup t x
   never-used-lookup = used-lookup s t never-used
+
+  pub never-used-frame : (list : List ℕ) → (frame s (length list) ≡ frame t (length list)) × (frameList s list ≡ frameList t list)
+  never-used-frame list = (used-frame s t never-used (length list), used-list s t never-used list)
+
+  pub never-used-row : rowOf s ≡ rowOf t
+  never-used-row = used-row s t never-used
 
   -- ---- the bytes that are read
   abbrev SameServed : LookupAnswer → LookupAnswer → Type 0

@@ -1,6 +1,6 @@
 -- What a survey's numbers count: of an accepted image the four add up to its grains, and each is the number of grains for which
 -- the lookup gives that kind; the totals are the rows' sums.
-use Prim.Native.Nat.{ℕ, zero, suc, _+_, _*_, _/_, _≤_, _<_}
+use Prim.Native.Nat.{ℕ, zero, suc, _+_, _*_, _/_, _%_, _≤_, _<_}
 use mathlib.Core.Path.{_≡_, refl, sym, ap, _∙_}
 use mathlib.Core.List.{List}
 use mathlib.Core.Bool.{Bool, true, false}
@@ -13,6 +13,7 @@ use Rattle.base.proofs.Rounding.{below-ceil}
 use Rattle.base.proofs.Rows.{tabulate-at}
 use Rattle.format.specs.Geometry.{grains}
 use Rattle.format.specs.Header.{headerOf, grainsOf}
+use Rattle.format.specs.Entries.{grainEntry}
 use Rattle.format.specs.Check.{check}
 use Rattle.format.specs.Source.{grainSource, entrySource, sectorLookup}
 use Rattle.format.specs.Survey.{entryKind, grainKind, countOf, grainsOfKind, rowFrom, rowOf, rowAt, tallyBelow}
@@ -24,6 +25,7 @@ use Rattle.format.specs.declared.LookupAnswer.{LookupAnswer}
 use Rattle.format.specs.declared.LookupAnswer.the-variants.{Found}
 use Rattle.format.specs.declared.CheckAnswer.the-variants.{Accepted}
 use Rattle.format.specs.Accepted.{Accepted as Meets}
+use Rattle.laws.proofs.Counts.{count-same}
 use Rattle.laws.proofs.AcceptedImage.{accepted-sound}
 use Rattle.laws.proofs.ServedSectors.{accepted-good, served}
 use Rattle.laws.specs.RowSums.{sumBelow}
@@ -60,10 +62,12 @@ kind-served s packed o Zero = refl
 kind-served s true o (Sector e) = refl
 kind-served s false o (Sector e) = refl
 
-count-same : (f g : ℕ → ℕ) (v n : ℕ) → ((k : ℕ) → k < n → f k ≡ g k) → countOf f v n ≡ countOf g v n
-unfolding countOf
-count-same f g v zero e = refl
-count-same f g v (suc n) e = rw (count-same f g v n (λ k b. e k (omega arith)), e n (omega arith))
+number-served : (s : List ℕ) (packed : Bool) (o : ℕ) (d : Entry) → located (Found (entrySource s packed o d)) .number ≡ 0
+unfolding entrySource grainSource pick
+number-served s packed o Absent = refl
+number-served s packed o Zero = refl
+number-served s true o (Sector e) = refl
+number-served s false o (Sector e) = refl
 
 module _ (s : List ℕ) (c size : ℕ) (a : check s ≡ Accepted c size) where
   meets : Meets s
@@ -82,6 +86,17 @@ module _ (s : List ℕ) (c size : ℕ) (a : check s ≡ Accepted c size) where
       let r = row-counts in
       rw (r .0, r .1, r .2, r .3) (counts-all (grainKind s (headerOf s)) (λ g. kind-few _ _) (grainsOf (headerOf s)))
 
+  -- every sector of the disk is found, and its kind is that of its grain
+  pub sector-kinds : (x : ℕ) → x < headerOf s .capacity → (located (sectorLookup s x) .number ≡ 0)
+      × (located (sectorLookup s x) .kind ≡ grainKind s (headerOf s) (x / headerOf s .«grain_size»))
+  sector-kinds x low =
+      let found = served s meets x low in
+      let o = x % headerOf s .«grain_size» in
+      let d = grainEntry s (headerOf s) (x / headerOf s .«grain_size») in (
+        ap (λ (r : LookupAnswer). located r .number) found ∙ number-served s (headerOf s .packed) o d,
+        ap (λ (r : LookupAnswer). located r .kind) found ∙ kind-served s (headerOf s .packed) o d,
+      )
+
   -- the lookup of a grain's first sector
   abbrev lookupKind : ℕ → ℕ
   lookupKind g = located (sectorLookup s (g * headerOf s .«grain_size»)) .kind
@@ -94,9 +109,7 @@ module _ (s : List ℕ) (c size : ℕ) (a : check s ≡ Accepted c size) where
       let low : g * h .«grain_size» < h .capacity = below-ceil (h .capacity) (h .«grain_size») some g l in
       let own : g * h .«grain_size» / h .«grain_size» ≡ g =
       ap (λ (x : ℕ). x / h .«grain_size») (mul-comm g (h .«grain_size»)) ∙ mul-div-right g some in
-      sym (ap (λ (r : LookupAnswer). located r .kind) (served s meets (g * h .«grain_size») low)
-      ∙ kind-served s (h .packed) _ _
-      ∙ ap (grainKind s h) own)
+      sym (sector-kinds (g * h .«grain_size») low .1 ∙ ap (grainKind s h) own)
 
   counted : (v : ℕ) → grainsOfKind s (headerOf s) v ≡ countOf lookupKind v (grainsOf (headerOf s))
   counted v = count-same (grainKind s (headerOf s)) lookupKind v (grainsOf (headerOf s)) kind-is

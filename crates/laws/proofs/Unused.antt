@@ -17,7 +17,7 @@ use Rattle.format.specs.Entries.{meaning, inTable, meaningAt, entryOfGrain, gra
 use Rattle.format.specs.Entries.{grainSectors, markerBroken}
 use Rattle.format.specs.Areas.{Area, named, tableAreas, primaryTables, redundantTables, grainArea, grainAreas, areas}
 use Rattle.format.specs.Areas.{runsPast}
-use Rattle.format.specs.Frame.{frameAreas}
+use Rattle.format.specs.Frame.{frameWords, frameAreas}
 use Rattle.format.specs.Check.{directoryMisplaced, redundantDirectoryMisplaced, entryDiffers, misplaced, grainPast}
 use Rattle.format.specs.Check.{markerBrokenAt, lowestPast, lowestBadMarker, copyDiffers, copiesDiffer, unlessGrain}
 use Rattle.format.specs.Check.{checkApart, checkCopies, checkGrains, checkLayout}
@@ -132,6 +132,11 @@ module _ (s t : List ℕ) (h : Header) (one : 1 ≤ h .«grain_size») (per : 1 
       pub frame-areas-same : frameAreas s h ≡ frameAreas t h
       unfolding frameAreas
       frame-areas-same =
+          rw (same .long, tables-same s t h (h .directory) (same .primary) (primary-in s h p), redundant-same (p .redundant))
+
+      pub frame-words-same : frameWords s h ≡ frameWords t h
+      unfolding frameWords
+      frame-words-same =
           rw (same .long, tables-same s t h (h .directory) (same .primary) (primary-in s h p), redundant-same (p .redundant))
 
       -- 9: a grain's marker is read where its sector lies in the file

@@ -6,9 +6,9 @@ use mathlib.Core.List.{List}
 use native.Mathlib.Omega.{arith}
 use Rattle.base.proofs.Steps.{or-no, pick-both}
 use Rattle.format.specs.Geometry.{grains}
-use Rattle.format.specs.Header.{headerOf, grainsOf}
+use Rattle.format.specs.Header.{headerOf}
 use Rattle.format.specs.Entries.{grainEntry}
-use Rattle.format.specs.Check.{checkFrom, check}
+use Rattle.format.specs.Check.{check}
 use Rattle.format.specs.Grains.{Map, merge, grainFrom, upperUnlessAbsent, oneIfStored, storedBelow}
 use Rattle.format.specs.Layout.{layoutLength}
 use Rattle.format.specs.Collapse.{mapOf, ifAccepted, notCollapsible, writtenIfRoom, normal, collapseFrom, collapse}
@@ -17,29 +17,18 @@ use Rattle.format.specs.declared.Entry.the-variants.{Absent, Zero, Sector}
 use Rattle.format.specs.declared.CheckAnswer.{CheckAnswer}
 use Rattle.format.specs.declared.CheckAnswer.the-variants.{Accepted, Refused as unaccepted}
 use Rattle.format.specs.declared.CollapseAnswer.{CollapseAnswer}
-use Rattle.format.proofs.Passed.{layout-passed}
 use Rattle.format.proofs.LayersAt.{alike}
-use Rattle.format.proofs.Places.{places-kept}
 use Rattle.laws.specs.Layers.{Layer}
 use Rattle.laws.specs.Unused.{SameUsed}
-use Rattle.laws.proofs.Unused.{entry-same}
-use Rattle.laws.proofs.UsedAnswers.{used-check}
-use Rattle.laws.proofs.ServedSectors.{accepted-good}
-use Rattle.laws.proofs.CollapsedLayers.{layer-accepted, capacity-is, size-is}
+use Rattle.laws.proofs.UsedAnswers.{used-check, accepted-entries}
+use Rattle.laws.proofs.CollapsedLayers.{capacity-is, size-is}
 use Rattle.laws.proofs.CollapsedAnswer.{own-layer}
 use Rattle.laws.proofs.CollapsedSelf.{collapse-self}
 
 -- ---- a layer's entries
 module _ (s t : List ℕ) (both : SameUsed s t) {c size : ℕ} (p : Layer c size s) where
   pub entries-same : (g : ℕ) → g < grains c size → grainEntry s (headerOf s) g ≡ grainEntry t (headerOf s) g
-  unfolding checkFrom
-  entries-same g l =
-      let h = headerOf s in
-      let good = accepted-good s (layer-accepted p) in
-      let sound = good .sound in
-      let found = layout-passed s h c size (rw (good .known) at (p .accepted)) in
-      let used : g < grainsOf h = rw (capacity-is p, size-is p) l in
-      entry-same s t h (sound .sizes .low) (sound .some) (both .used h (good .known)) (places-kept s h (found .places)) g used
+  entries-same g l = accepted-entries s t both c size (p .accepted) g (rw (capacity-is p, size-is p) l)
 
 -- ---- whether a grain is stored goes by the entries
 one-same : (s t u v : List ℕ) (c size d other g : ℕ) (a b : Entry)

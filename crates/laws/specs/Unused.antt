@@ -1,4 +1,4 @@
--- What two images agree in that are checked alike: all that the check reads of them.
+-- What two images agree in that have the same answers: all that is read of them on the way to one.
 use Prim.Native.Nat.{ℕ, _+_, _≤_, _<_}
 use mathlib.Core.Path.{_≡_}
 use mathlib.Core.List.{List}
@@ -29,7 +29,8 @@ pub record SameInUse (s t : List ℕ) (h : Header) : Type 0 where
   pub markers : h .packed ≡ true → (g e : ℕ) → g < grainsOf h → grainEntry s h g ≡ Sector e → e < fileSectors s
       → (markerSize s e ≡ markerSize t e) × (markerFirst s e ≡ markerFirst t e)
 
--- all that decides an answer: the header, and what is read of an image of that header
+-- all that decides an answer: the header, and what is read of an image of that header. `headerOf` too, since a chain compares
+-- layers' sizes by it
 pub record SameUsed (s t : List ℕ) : Type 0 where
   pub judged : judge s ≡ judge t
   pub header : headerOf s ≡ headerOf t
