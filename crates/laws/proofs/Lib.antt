@@ -50,5 +50,6 @@ pub mod ExamplesCheck
 pub mod ExamplesCollapse
 pub mod ExamplesFooter
 pub mod ExamplesFrame
+pub mod ExamplesSurvey
 pub mod ExamplesHeader
 pub mod ExamplesLookup

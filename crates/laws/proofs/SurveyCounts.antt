@@ -7,13 +7,16 @@ use mathlib.Core.Bool.{Bool, true, false}
 use native.Mathlib.Omega.{arith}
 use native.Mathlib.Nat.{mul-comm, mul-div-right}
 use lib.Dec.{eqb}
+use lib.ListN.{getD}
 use Rattle.base.specs.Pick.{pick}
 use Rattle.base.proofs.Rounding.{below-ceil}
+use Rattle.base.proofs.Rows.{tabulate-at}
 use Rattle.format.specs.Geometry.{grains}
 use Rattle.format.specs.Header.{headerOf, grainsOf}
 use Rattle.format.specs.Check.{check}
 use Rattle.format.specs.Source.{grainSource, entrySource, sectorLookup}
-use Rattle.format.specs.Survey.{entryKind, grainKind, countOf, grainsOfKind, rowFrom, rowOf, rowAt, addRow, totalsBelow}
+use Rattle.format.specs.Survey.{entryKind, grainKind, countOf, grainsOfKind, rowFrom, rowOf, rowAt, tallyBelow}
+use Rattle.format.specs.Survey.{addRow, totalsBelow}
 use Rattle.format.specs.Answers.{located}
 use Rattle.format.specs.declared.Entry.{Entry}
 use Rattle.format.specs.declared.Entry.the-variants.{Absent, Zero, Sector}
@@ -114,3 +117,8 @@ pub survey-totals : (s l : List ℕ) (n : ℕ)
 unfolding totalsBelow addRow sumBelow
 survey-totals s l zero = (refl, refl, refl, refl)
 survey-totals s l (suc n) = let r = survey-totals s l n in (rw (r .0), rw (r .1), rw (r .2), rw (r .3))
+
+-- ---- word i of the tally is the number of rows with number i + 1
+pub survey-tally : (s l : List ℕ) (n i : ℕ) → i < 63 → getD (tallyBelow s l n) i 0
+    ≡ countOf (λ k. rowAt s l k .number) (i + 1) n
+survey-tally s l n i b = tabulate-at 63 (λ j. countOf (λ k. rowAt s l k .number) (j + 1) n) i b
