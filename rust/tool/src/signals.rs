@@ -22,6 +22,9 @@ const FAULTS: [c_int; 6] = [
     libc::SIGSYS,
 ];
 
+/// What the system tells of a signal that was sent to one thread, as `abort` does to its own: SI_TKILL.
+const FROM_A_THREAD: c_int = -6;
+
 /// They end no process, or nothing can be done about them.
 const LEFT_ALONE: [c_int; 9] = [
     libc::SIGKILL,
@@ -70,8 +73,9 @@ unsafe extern "C" fn on_signal(signal: c_int, info: *mut siginfo_t, _: *mut c_vo
     if !fault && IGNORED.load(SeqCst) & bit(signal) != 0 {
         return;
     }
-    // `abort` doesn't wait for another thread.
-    if !fault && signal != libc::SIGABRT && handed_on(signal) {
+    // `abort` doesn't wait for another thread; SIGABRT from outside does, as others do.
+    let aborted = signal == libc::SIGABRT && (*info).si_code == FROM_A_THREAD;
+    if !fault && !aborted && handed_on(signal) {
         return;
     }
     if fault && signal == libc::SIGBUS {

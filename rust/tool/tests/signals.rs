@@ -7,7 +7,7 @@ mod held;
 mod image;
 
 use common::{emulated, names, run, tool, Folder, TOOL};
-use held::{held, hold, signal, BIG};
+use held::{begun, held, hold, signal, BIG};
 use image::Image;
 use std::fs;
 use std::os::unix::process::{CommandExt, ExitStatusExt};
@@ -68,6 +68,37 @@ fn whatever_ends_the_tool_leaves_nothing() {
         let child = held(&folder, &["normal", "disk", "-o", "out"]);
         let status = sent(child, &[number]);
         assert_eq!(status.signal(), Some(number));
+        assert_eq!(folder.names(), ["disk"], "after signal {number}");
+    }
+}
+
+/// strace holds the tool where its output is there and nothing of it is noted yet.
+#[test]
+fn a_signal_at_the_moment_an_output_is_made() {
+    let folder = Folder::new();
+    Image::full(&folder.at("disk"), SMALL);
+    for number in [libc::SIGTERM, libc::SIGABRT] {
+        let mut command = Command::new("sh");
+        let strace = "exec strace -f -qq -o /dev/null -e trace=openat -e inject=openat:delay_exit=100000 \"$@\"";
+        command.args(["-c", strace, "sh", TOOL, "normal", "disk", "-o", "out"]);
+        // Each folder in which the loader looks would be held too.
+        command.env_remove("LD_LIBRARY_PATH");
+        let child = begun(folder.path(), command.current_dir(folder.path()));
+        let part = folder
+            .names()
+            .into_iter()
+            .find(|name| name.ends_with(".part"));
+        let process = part
+            .as_deref()
+            .and_then(|part| part.strip_prefix(".out.")?.split('-').next()?.parse().ok());
+        // SAFETY: the tool is held for longer than it takes to come here.
+        let sent = process.map(|process| unsafe { libc::kill(process, number) });
+        let status = ended(child);
+        if sent.is_none() {
+            println!("NOT RUN: strace cannot hold the tool here");
+            return;
+        }
+        assert_eq!((sent, status.signal()), (Some(0), Some(number)));
         assert_eq!(folder.names(), ["disk"], "after signal {number}");
     }
 }
