@@ -7,7 +7,8 @@ use mathlib.Core.Bool.{Bool, true, false}
 use native.Mathlib.Omega.{arith}
 use Rattle.base.specs.Pick.{pick}
 use Rattle.format.specs.Header.{judge}
-use Rattle.format.specs.Check.{misplaced, lowestPast, lowestBadMarker, copiesDiffer, unlessGrain, checkApart, checkCopies, checkGrains}
+use Rattle.format.specs.Check.{misplaced, lowestPast, lowestBadMarker, copiesDiffer, unlessGrain}
+use Rattle.format.specs.Check.{checkApart, checkCopies, checkGrains}
 use Rattle.format.specs.Check.{checkLayout, checkFrom, check}
 use Rattle.format.specs.Areas.{areas, meet}
 use Rattle.format.specs.Answers.{number}

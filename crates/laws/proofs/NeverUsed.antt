@@ -97,7 +97,8 @@ module _ (s t : List ℕ) (both : SameSectors s t) where
   pub never-used-lookup : (x : ℕ) → sectorLookup s x ≡ sectorLookup t x
   never-used-lookup = used-lookup s t never-used
 
-  pub never-used-frame : (list : List ℕ) → (frame s (length list) ≡ frame t (length list)) × (frameList s list ≡ frameList t list)
+  pub never-used-frame : (list : List ℕ) → (frame s (length list) ≡ frame t (length list))
+      × (frameList s list ≡ frameList t list)
   never-used-frame list = (used-frame s t never-used (length list), used-list s t never-used list)
 
   pub never-used-row : rowOf s ≡ rowOf t

@@ -18,7 +18,8 @@ use Rattle.format.specs.Header.{headerOf}
 use Rattle.format.specs.Check.{check}
 use Rattle.format.specs.Chain.{layerAt}
 use Rattle.format.specs.Answers.{number, place, verdict}
-use Rattle.format.specs.Survey.{countOf, rowFrom, rowOf, rowAt, rowWords, rowsBelow, survey, afterSurvey, surveyRows, surveyTally}
+use Rattle.format.specs.Survey.{countOf, rowFrom, rowOf, rowAt, rowWords, rowsBelow}
+use Rattle.format.specs.Survey.{survey, afterSurvey, surveyRows, surveyTally}
 use Rattle.format.specs.declared.Row.{Row}
 use Rattle.format.specs.declared.Totals.{Totals}
 use Rattle.format.specs.declared.Refusal.{Refusal}
