@@ -39,7 +39,7 @@ fn tables_differ(image: &[u8], t: u64, u: u64, n: u64) -> bool
     false
 }
 
-// Two directory entries: 0 and 1 stand exactly where they stand in the other, and tables are equal in the n entries in use.
+// Two directory entries: absent and zero stand where they stand in the other, and tables are equal in the n entries in use.
 fn copy_differs(image: &[u8], n: u64, entry: Entry, copy: Entry) -> bool
     requires { ⌜ ((t : ℕ) → entry ≡ Sector t → 512 * t + 4 * n ≤ length (now image)) ⌝ }
     requires { ⌜ ((u : ℕ) → copy ≡ Sector u → 512 * u + 4 * n ≤ length (now image)) ⌝ }

@@ -2,16 +2,18 @@
 use Prim.Native.Nat.{ℕ, _/_, _%_, _≤_}
 use mathlib.Core.Path.{_≡_, sym, _∙_}
 use mathlib.Core.List.{List}
-use mathlib.Core.Bool.{Bool, true, false, not, _&&_, _||_}
+use mathlib.Core.Bool.{Bool, true, false, not, _&&_, _||_, and-false}
+use mathlib.Core.Logic.{⊎-elim}
 use native.Mathlib.Omega.{arith}
 use lib.Dec.{ltb, eqb}
 use lib.ListN.{length}
 use borrow.Author.Tests.{ltb-false, le-ltb, eqb-true, eqb-false, eq-eqb, ne-eqb, not-false}
 use Rattle.base.specs.Strings.{sameAt}
-use Rattle.base.proofs.Steps.{or-no}
+use Rattle.base.proofs.Steps.{or-no, true-or-false}
 use Rattle.base.proofs.Strings.{same-bytes, bytes-same}
 use Rattle.format.specs.Kdmv.{kdmvMagic, newlineBytes, versionBroken, flagSet, newlineBroken, atEnd, otherFlags}
 use Rattle.format.specs.Kdmv.{flagsBroken, capacityBroken, grainSizeBroken, kdmvSizesBroken, kdmvFault, footerBroken}
+use Rattle.format.specs.Header.{kdmvOneIsZero}
 use Rattle.format.specs.Accepted.{KdmvRules}
 use Rattle.format.specs.declared.KdmvFields.{KdmvFields}
 use Rattle.format.specs.declared.Fault.the-variants.{None, Found}
@@ -30,6 +32,7 @@ module _ (k : KdmvFields) where
     compression : not (eqb (k .compression) (k .flags / 0x10000 % 2)) ≡ false
     markers : (flagSet (k .flags) 0x20000 && not (flagSet (k .flags) 0x10000)) ≡ false
     redundant : (flagSet (k .flags) 0x2 && eqb (k .redundant) 0) ≡ false
+    zeroed : (flagSet (k .flags) 0x4 && eqb (k .version) 1) ≡ false
     end : (atEnd k && not (flagSet (k .flags) 0x20000)) ≡ false
 
   flag-rules : flagsBroken k ≡ false → FlagRules
@@ -38,10 +41,13 @@ module _ (k : KdmvFields) where
       let b = or-no (not (eqb (k .compression) (k .flags / 0x10000 % 2))) _ (a .1) in
       let d = or-no (flagSet (k .flags) 0x20000 && not (flagSet (k .flags) 0x10000)) _ (b .1) in
       let g = or-no (flagSet (k .flags) 0x2 && eqb (k .redundant) 0) _ (d .1) in
-      record { others = a .0; compression = b .0; markers = d .0; redundant = g .0; end = g .1 }
+      let z = or-no (flagSet (k .flags) 0x4 && eqb (k .version) 1) _ (g .1) in
+      record { others = a .0; compression = b .0; markers = d .0; redundant = g .0; zeroed = z .0; end = z .1 }
 
   rules-flag : FlagRules → flagsBroken k ≡ false
-  rules-flag r = no-or _ _ (r .others) (no-or _ _ (r .compression) (no-or _ _ (r .markers) (no-or _ _ (r .redundant) (r .end))))
+  rules-flag r =
+      no-or _ _ (r .others)
+      (no-or _ _ (r .compression) (no-or _ _ (r .markers) (no-or _ _ (r .redundant) (no-or _ _ (r .zeroed) (r .end)))))
 
 -- ---- all of them, where the newline field tells of the image
 module _ (s : List ℕ) (k : KdmvFields) (newline : k .newline ≡ sameAt s 73 newlineBytes) where
@@ -66,6 +72,7 @@ module _ (s : List ℕ) (k : KdmvFields) (newline : k .newline ≡ sameAt s 73 n
         compression = eqb-true _ _ (not-false _ (f .compression));
         markers = λ t. not-false _ (and-no _ _ (f .markers) t);
         useRedundant = λ t. eqb-false _ _ (and-no _ _ (f .redundant) t);
+        zeroedEntries = λ t. eqb-false _ _ (and-no _ _ (f .zeroed) t);
         capacity = capacity-kept (k .capacity) (c .0);
         grainSize = grain-size-kept 8 (k .«grain_size») (z .0);
         entries = eqb-true _ _ (not-false _ (z .1));
@@ -88,6 +95,7 @@ module _ (s : List ℕ) (k : KdmvFields) (newline : k .newline ≡ sameAt s 73 n
           compression = rw (eq-eqb (k .compression) _ (r .compression));
           markers = no-and _ _ (λ t. rw (r .markers t));
           redundant = no-and _ _ (λ t. ne-eqb (k .redundant) 0 (r .useRedundant t));
+          zeroed = no-and _ _ (λ t. ne-eqb (k .version) 1 (r .zeroedEntries t));
           end = no-and _ _ (λ t. rw (r .atEnd (eqb-true _ _ t) .0));
         })
 
@@ -109,3 +117,19 @@ module _ (s : List ℕ) (k : KdmvFields) (newline : k .newline ≡ sameAt s 73 n
 
     pub kept-end : atEnd k ≡ true → footerBroken s ≡ false
     kept-end t = kept-footer s (r .atEnd (eqb-true _ _ t) .1)
+
+-- where the rules hold flag 0x4 alone decides whether entry 1 means zeros: version 1 has none
+module _ (s : List ℕ) (k : KdmvFields) (r : KdmvRules s k) where
+  two-or-three : flagSet (k .flags) 0x4 ≡ true → (eqb (k .version) 2 || eqb (k .version) 3) ≡ true
+  two-or-three t =
+      ⊎-elim (λ two. rw two)
+      (λ f. rw f (eq-eqb (k .version) 3 (third t (eqb-false (k .version) 2 f))))
+      (true-or-false (eqb (k .version) 2))
+    where
+      third : flagSet (k .flags) 0x4 ≡ true → (k .version ≡ 2 → ⊥) → k .version ≡ 3
+      third t other = omega (arith, r .version .0, r .version .1, r .zeroedEntries t, other)
+
+  pub flag-decides : kdmvOneIsZero k ≡ flagSet (k .flags) 0x4
+  flag-decides =
+      ⊎-elim (λ t. rw (t, two-or-three t)) (λ n. rw n (and-false (eqb (k .version) 2 || eqb (k .version) 3)))
+      (true-or-false (flagSet (k .flags) 0x4))

@@ -24,7 +24,7 @@ use Rattle.format.proofs.Entries.{some-no}
 pub all-compared : (s : List ℕ) (t u n : ℕ) → tablesDiffer s t u n ≡ false → (k : ℕ) → k < n → entryAt s t k ≡ entryAt s u k
 all-compared s t u n e k h = eqb-true _ _ (not-no _ (some-no _ _ e k (omega arith)))
 
--- taking entry 1, a grain of zeros, for file sector 1; in COWD it is sector 1
+-- taking entry 1 for file sector 1 where it means zeros, or for zeros where it is sector 1
 pub one-zero : meaning true 1 ≡ noSector
 unfolding meaning pick
 one-zero = refl

@@ -47,6 +47,7 @@ pub record KdmvRules (s : List ℕ) (k : KdmvFields) : Type 0 where
   pub compression : k .compression ≡ k .flags / 0x10000 % 2
   pub markers : flagSet (k .flags) 0x20000 ≡ true → flagSet (k .flags) 0x10000 ≡ true
   pub useRedundant : flagSet (k .flags) 0x2 ≡ true → k .redundant ≡ 0 → ⊥
+  pub zeroedEntries : flagSet (k .flags) 0x4 ≡ true → k .version ≡ 1 → ⊥
   pub capacity : Capacity (k .capacity)
   pub grainSize : GrainSize 8 (k .«grain_size»)
   pub entries : k .«entries_per_table» ≡ 512
@@ -61,7 +62,7 @@ pub record CowdRules (s : List ℕ) (k : CowdFields) : Type 0 where
   pub storedCount : directoryEntries (k .capacity) 4096 (k .«grain_size») ≤ k .«directory_entries»
 
 -- ---- areas
--- the entries of the two directories: 0 and 1 in the same places, and tables equal in the n entries in use
+-- the entries of the two directories, by meaning: absent and zero in the same places, and tables equal in the n entries in use
 pub data SameEntry (s : List ℕ) (n : ℕ) : Entry → Entry → Type 0 where
   absent : SameEntry s n Absent Absent
   zero : SameEntry s n Zero Zero

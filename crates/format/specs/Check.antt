@@ -81,7 +81,8 @@ lowestBadMarker s h = lowestFrom (badMarker s h) 0 (grainsOf h)
 abbrev pub tablesDiffer : List ℕ → ℕ → ℕ → ℕ → Bool
 tablesDiffer s t u n = anyBelow (λ k. not (eqb (entryAt s t k) (entryAt s u k))) n
 
--- two directory entries: 0 and 1 stand exactly where they stand in the other, and tables are equal in the n entries in use
+-- two directory entries, by meaning: absent and zero stand where they stand in the other, and tables are equal in the n entries
+-- in use
 unfoldable pub copyDiffers : List ℕ → ℕ → Entry → Entry → Bool
 copyDiffers s n Absent Absent = false
 copyDiffers s n Absent Zero = true

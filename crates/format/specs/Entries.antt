@@ -16,7 +16,7 @@ use Rattle.format.specs.declared.Entry.the-variants.{Absent, Zero, Secto
 abbrev pub entryAt : List ℕ → ℕ → ℕ → ℕ
 entryAt s t k = leAt s (512 * t + 4 * k) 4
 
--- the entry table: 0 is absent; 1 is zero, where it means zeros; else the entry is a sector
+-- the entry table: 0 is absent; 1 is zero, if `oneIsZero`; else the entry is a sector
 unfoldable pub meaning : Bool → ℕ → Entry
 meaning oneIsZero e = pick (eqb e 0) Absent (pick (oneIsZero && eqb e 1) Zero (Sector e))
 

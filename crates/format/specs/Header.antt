@@ -1,8 +1,8 @@
 -- The header of an image of either kind: what it tells, and refusals 1 to 7 in their order.
 use Prim.Native.Nat.{ℕ}
 use mathlib.Core.List.{List}
-use mathlib.Core.Bool.{Bool, true, false}
-use lib.Dec.{ltb}
+use mathlib.Core.Bool.{Bool, true, false, _&&_, _||_}
+use lib.Dec.{ltb, eqb}
 use lib.ListN.{length}
 use Rattle.base.specs.Pick.{pick}
 use Rattle.base.specs.Strings.{sameAt}
@@ -19,9 +19,9 @@ use Rattle.format.specs.declared.HeaderAnswer.{HeaderAnswer}
 use Rattle.format.specs.declared.HeaderAnswer.the-variants.{Known, Refused}
 
 -- ---- what all calls have to know, of either kind
--- when entry 1 means zeros: in every KDMV image, whether flag 0x4 is set or not; in a COWD image it is sector 1
+-- when entry 1 means zeros: in a KDMV image of version 2 or 3 with flag 0x4. In any other, and in COWD, it is sector 1
 abbrev pub kdmvOneIsZero : KdmvFields → Bool
-kdmvOneIsZero k = true
+kdmvOneIsZero k = (eqb (k .version) 2 || eqb (k .version) 3) && flagSet (k .flags) 0x4
 
 -- a KDMV image: 512 entries a table, which takes 4 sectors. `directory` is the sector of the directory that counts
 unfoldable pub kdmvHeader : KdmvFields → ℕ → Header

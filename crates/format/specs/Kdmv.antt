@@ -63,7 +63,7 @@ abbrev pub atEnd : KdmvFields → Bool
 atEnd k = eqb (k .directory) allOnes
 
 -- 5: no bit but the five; compression is 1 exactly when 0x10000 is set, else 0; 0x20000 needs 0x10000; 0x2 needs a redundant
--- directory; a directory at the end needs 0x20000
+-- directory; 0x4 needs version 2 or 3; a directory at the end needs 0x20000
 abbrev pub otherFlags : ℕ → Bool
 otherFlags f = not (eqb f (flagValue f 0x1 + flagValue f 0x2 + flagValue f 0x4 + flagValue f 0x10000 + flagValue f 0x20000))
 
@@ -72,7 +72,8 @@ flagsBroken k =
     otherFlags (k .flags)
     || (not (eqb (k .compression) (k .flags / 0x10000 % 2))
     || ((flagSet (k .flags) 0x20000 && not (flagSet (k .flags) 0x10000))
-    || ((flagSet (k .flags) 0x2 && eqb (k .redundant) 0) || (atEnd k && not (flagSet (k .flags) 0x20000)))))
+    || ((flagSet (k .flags) 0x2 && eqb (k .redundant) 0)
+    || ((flagSet (k .flags) 0x4 && eqb (k .version) 1) || (atEnd k && not (flagSet (k .flags) 0x20000))))))
 
 -- ---- 6: capacity 1 to 2^31; grain size a power of two, `least` to 2,048; entries per table 512
 abbrev pub capacityBroken : ℕ → Bool

@@ -40,6 +40,7 @@ pub struct Header {
     pub redundant: u64,
     pub entries_per_table: u64,
     pub table_sectors: u64,
+    // Whether an entry of 1 means zeros, and is no sector.
     pub one_is_zero: bool,
     pub packed: bool,
     pub footer: bool,

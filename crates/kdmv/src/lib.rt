@@ -4,7 +4,7 @@ ghost use Prim.Native.Nat.{_≤_};
 ghost use lib.ListN.{length};
 ghost use Rattle.format.specs.Kdmv.{kdmvFields, versionBroken, newlineBroken, otherFlags, flagsBroken, atEnd, kdmvSizesBroken};
 ghost use Rattle.format.specs.Kdmv.{kdmvFault};
-ghost use Rattle.format.specs.Header.{kdmvHeader, directoryOf, withFooter, judgeKdmv};
+ghost use Rattle.format.specs.Header.{kdmvOneIsZero, kdmvHeader, directoryOf, withFooter, judgeKdmv};
 ghost use Rattle.format.specs.Judged.{Sized};
 use footer::ALL_ONES;
 use footer::footer_broken;
@@ -83,7 +83,8 @@ fn flags_broken(k: KdmvFields) -> bool
         | (!(k.compression == f / COMPRESSED % 2)
             | ((markers & !packed)
                 | (((f / USE_REDUNDANT % 2 == 1) & (k.redundant == 0))
-                    | ((k.directory == ALL_ONES) & !markers))))
+                    | (((f / ZEROED_ENTRIES % 2 == 1) & (k.version == 1))
+                        | ((k.directory == ALL_ONES) & !markers)))))
 }
 
 fn sizes_broken(k: KdmvFields) -> bool
@@ -112,6 +113,13 @@ fn fault(k: KdmvFields) -> Fault
     Fault::None
 }
 
+// Entry 1 means zeros only where both version and flag say so: else a damaged table would read as a blank disk.
+fn one_is_zero(k: KdmvFields) -> bool
+    ensures { λ r. ⌜ r ≡ kdmvOneIsZero k ⌝ }
+{
+    ((k.version == 2) | (k.version == 3)) & (k.flags / ZEROED_ENTRIES % 2 == 1)
+}
+
 fn header(k: KdmvFields, directory: u64) -> Header
     requires { ⌜ Sized (k .capacity) (k .«grain_size») ⌝ }
     ensures { λ r. ⌜ r ≡ kdmvHeader k directory ⌝ }
@@ -128,7 +136,7 @@ fn header(k: KdmvFields, directory: u64) -> Header
         redundant: k.redundant,
         entries_per_table: 512,
         table_sectors: 4,
-        one_is_zero: true,
+        one_is_zero: one_is_zero(k),
         packed: k.flags / COMPRESSED % 2 == 1,
         footer: k.directory == ALL_ONES,
     }

@@ -122,7 +122,7 @@ tests =
     ∷ example (markerBroken (marker 24 1) 8 3 0) false
     ∷ example (markerBroken (marker 24 0) 8 3 0) true
     ∷ example (markerBroken (marker 0x100000000000018 1) 8 3 0) true
-    -- 11: 0 and 1 stand exactly where they stand in the other directory
+    -- 11: absent and zero stand exactly where they stand in the other directory
     ∷ example (copyDiffers [] 1 Absent Absent) false
     ∷ example (copyDiffers [] 1 Absent Zero) true
     ∷ example (copyDiffers [] 1 Absent (Sector 2)) true
@@ -163,7 +163,7 @@ listed =
     ∷ example (footerArea (zeros 2560) (streamHeader 1)) (area 3 1 ∷ [])
     ∷ example (lastArea (zeros 2560) (streamHeader 1)) (area 4 1 ∷ [])
     ∷ example (footerArea (zeros 2560) (plainHeader 0 0 1 0) ++ lastArea (zeros 2560) (plainHeader 0 0 1 0)) []
-    -- a table takes 4 sectors; entries 0 and 1 name none
+    -- a table takes 4 sectors; entries 0 and 1 name none where 1 means zeros
     ∷ example (primaryTables (zeros 512 ++ leBytes 4 7) (plainHeader 0 0 1 0)) (area 7 4 ∷ [])
     ∷ example (primaryTables (zeros 512 ++ leBytes 4 1) (plainHeader 0 0 1 0)) []
     ∷ example (redundantTables (zeros 512 ++ leBytes 4 7) (plainHeader 0 0 2 1)) (area 7 4 ∷ [])

@@ -60,7 +60,7 @@ fields version flags capacity grainSize entries redundant directory newline comp
 
 -- a header whose flags, compression, redundant directory and directory are these
 abbrev flagged : ℕ → ℕ → ℕ → ℕ → Fault
-flagged flags compression redundant directory = kdmvFault (fields 1 flags 16 8 512 redundant directory true compression)
+flagged flags compression redundant directory = kdmvFault (fields 2 flags 16 8 512 redundant directory true compression)
 
 abbrev kdmvRules : List (Example (List Fault))
 kdmvRules =
@@ -68,7 +68,7 @@ kdmvRules =
     example (map (λ v. kdmvFault (fields v 0 16 8 512 0 1 true 0)) (0 ∷ 1 ∷ 2 ∷ 3 ∷ 4 ∷ []))
     (Found Version ∷ None ∷ None ∷ None ∷ Found Version ∷ [])
     -- newline bytes count where 0x1 is set
-    ∷ example (map (λ f. kdmvFault (fields 1 f 16 8 512 0 1 false 0)) (0 ∷ 1 ∷ 4 ∷ 5 ∷ []))
+    ∷ example (map (λ f. kdmvFault (fields 2 f 16 8 512 0 1 false 0)) (0 ∷ 1 ∷ 4 ∷ 5 ∷ []))
     (None ∷ Found Newline ∷ None ∷ Found Newline ∷ [])
     -- no bit but the five
     ∷ example (map (λ f. flagged f 0 0 1) (0 ∷ 1 ∷ 4 ∷ 5 ∷ [])) (None ∷ None ∷ None ∷ None ∷ [])
@@ -82,6 +82,8 @@ kdmvRules =
     ∷ example (flagged 0x20000 0 0 1 ∷ flagged 0x30000 1 0 1 ∷ []) (Found Flags ∷ None ∷ [])
     -- 0x2 needs a redundant directory
     ∷ example (map (λ r. flagged 2 0 r 1) (0 ∷ 1 ∷ [])) (Found Flags ∷ None ∷ [])
+    -- version 1 has no 0x4
+    ∷ example (map (λ v. kdmvFault (fields v 4 16 8 512 0 1 true 0)) (1 ∷ 2 ∷ 3 ∷ [])) (Found Flags ∷ None ∷ None ∷ [])
     -- a directory at the end needs 0x20000
     ∷ example (map (λ d. flagged 0x10000 1 0 d) (0xffffffffffffffff ∷ 0xfffffffffffffffe ∷ [])) (Found Flags ∷ None ∷ [])
     ∷ example (flagged 0x30000 1 0 0xffffffffffffffff ∷ []) (None ∷ [])

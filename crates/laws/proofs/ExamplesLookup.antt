@@ -80,7 +80,8 @@ at directory s x = lookupIn s (plainHeader 0 1 directory 99) x
 
 abbrev lookups : List (Example LookupAnswer)
 lookups =
-    -- a directory entry of 0 and of 1 says it of all its grains; the descriptor and the redundant directory are not judged
+    -- a directory entry of 0, and of 1 where it means zeros, says it of all its grains; descriptor and redundant directory are
+    -- not judged
     example (at 1 (zeros 1024) 0) (Found Absent)
     ∷ example (at 1 (zeros 512 ++ leBytes 4 1 ++ zeros 508) 15) (Found Zero)
     -- 8: directory sector 0, the directory past F, the table past F by a sector; 20 comes first

@@ -101,6 +101,7 @@ module _ {c size : ℕ} (z : Sizes c size) where
           compression = refl;
           markers = λ t. absurd (false≢true t);
           useRedundant = λ t. absurd (false≢true t);
+          zeroedEntries = λ t q. absurd (omega (arith, q));
           capacity = z .capacity;
           grainSize = z .grainSize;
           entries = refl;

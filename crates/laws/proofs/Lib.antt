@@ -9,6 +9,7 @@ pub mod LookupPlain
 pub mod ServedBytes
 pub mod ServedSectors
 pub mod ServedChain
+pub mod EntryOne
 pub mod LayoutNumbers
 pub mod LayoutParts
 pub mod LayoutHeader
@@ -56,3 +57,4 @@ pub mod ExamplesFrame
 pub mod ExamplesSurvey
 pub mod ExamplesHeader
 pub mod ExamplesLookup
+pub mod ExamplesEntryOne

@@ -17,13 +17,13 @@ joined (part ∷ parts) = part ++ joined parts
 abbrev pub with : ℕ → ℕ → ℕ → List ℕ → List ℕ
 with at n v s = over s at (leBytes n v)
 
--- sector 0 of a KDMV image: version 1, newline test, uncompressed, no descriptor, no redundant directory
-abbrev pub kdmvSector : ℕ → ℕ → ℕ → List ℕ
-kdmvSector capacity size directory =
+-- sector 0 of a KDMV image, by its version and flags: uncompressed, no descriptor, no redundant directory
+abbrev pub flaggedSector : ℕ → ℕ → ℕ → ℕ → ℕ → List ℕ
+flaggedSector version flags capacity size directory =
     joined
     ((0x4b ∷ 0x44 ∷ 0x4d ∷ 0x56 ∷ [])
-    ∷ leBytes 4 1
-    ∷ leBytes 4 1
+    ∷ leBytes 4 version
+    ∷ leBytes 4 flags
     ∷ leBytes 8 capacity
     ∷ leBytes 8 size
     ∷ zeros 16
@@ -34,6 +34,10 @@ kdmvSector capacity size directory =
     ∷ (0x0a ∷ 0x20 ∷ 0x0d ∷ 0x0a ∷ [])
     ∷ zeros 435
     ∷ [])
+
+-- of version 2 with newline test and zeroed entries, so that entry 1 means zeros
+abbrev pub kdmvSector : ℕ → ℕ → ℕ → List ℕ
+kdmvSector capacity size directory = flaggedSector 2 5 capacity size directory
 
 -- sectors 0 to 3 of a COWD image
 abbrev pub cowdSectors : ℕ → ℕ → ℕ → ℕ → List ℕ
@@ -49,11 +53,11 @@ cowdSectors capacity size directory stored =
     ∷ zeros 2020
     ∷ [])
 
--- source 000's sample: the directory at sector 26 holds 27, the table there 128, 0, 256; 384 sectors in all
+-- source 000's sample, of version 1: the directory at sector 26 holds 27, the table there 128, 0, 256; 384 sectors in all
 abbrev pub sample : List ℕ
 sample =
     joined
-    (kdmvSector 8192 128 26
+    (flaggedSector 1 1 8192 128 26
     ∷ zeros (512 * 25)
     ∷ leBytes 4 27
     ∷ zeros 508
@@ -82,7 +86,7 @@ small zeroth first unused long =
 abbrev pub doubled : List ℕ
 doubled =
     joined
-    (with 8 4 3 (with 28 8 11 (with 36 8 1 (with 48 8 2 (kdmvSector 16 8 1))))
+    (with 8 4 7 (with 28 8 11 (with 36 8 1 (with 48 8 2 (kdmvSector 16 8 1))))
     ∷ leBytes 4 3
     ∷ zeros 508
     ∷ leBytes 4 7
@@ -97,7 +101,7 @@ doubled =
 -- sector 0 of a stream, or its footer: compressed, with markers, a descriptor of one sector
 abbrev pub streamSector : ℕ → List ℕ
 streamSector directory =
-    with 77 2 1 (with 64 8 0x5556575859 (with 36 8 1 (with 28 8 9 (with 8 4 0x30001 (kdmvSector 16 8 directory)))))
+    with 77 2 1 (with 64 8 0x5556575859 (with 36 8 1 (with 28 8 9 (with 8 4 0x30005 (kdmvSector 16 8 directory)))))
 
 -- the directory's sector is all ones in sector 0, and the footer has it
 abbrev pub stream : List ℕ → ℕ → List ℕ
@@ -125,7 +129,7 @@ packed first size next nextSize =
     ∷ []))
     1
 
--- ---- headers that images of KDMV tell
+-- ---- headers that images of KDMV tell, where entry 1 means zeros
 abbrev headed : ℕ → ℕ → Bool → ℕ → ℕ → ℕ → ℕ → Header
 headed capacity grainSize stream descriptor descriptorSectors directory redundant =
     record {

@@ -7,4 +7,4 @@ flags-broken-spec =
     tie.close
     (tie.spec
     (λ other-flags-requires κs. search needs)
-    (λ c. rw (c .before .before .before .other-flags .ensures)))
+    (λ c. rw (c .before .before .before .before .other-flags .ensures)))

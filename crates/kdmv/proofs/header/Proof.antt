@@ -10,4 +10,9 @@ header-spec =
     (tie.spec
     (λ directory-entries-requires κs. search needs)
     (λ directory-sectors-requires κs. search needs)
-    (λ c. rw (c .before .before .directory-sectors .ensures, c .before .before .before .directory-entries .ensures .0)))
+    (λ one-is-zero-requires κs. search needs)
+    (λ c. rw (
+      c .before .before .one-is-zero .ensures,
+      c .before .before .before .directory-sectors .ensures,
+      c .before .before .before .before .directory-entries .ensures .0,
+    )))
