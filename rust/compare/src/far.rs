@@ -38,13 +38,16 @@ fn far_case(run: &mut Run, memory: &mut [u8], rng: &mut Rng) {
         place(rng, f, 1)
     };
     write(memory, 0, 4, if cowd { 0x4457_4f43 } else { 0x564d_444b });
-    write(memory, 4, 4, 1);
     if cowd {
+        write(memory, 4, 4, 1);
         write(memory, 12, 4, capacity);
         write(memory, 16, 4, grain_size);
         write(memory, 20, 4, directory);
         write(memory, 24, 4, 1);
     } else {
+        let (version, flags) = rng.pick(&[(1, 0), (3, 0), (2, 4), (3, 4)]);
+        write(memory, 4, 4, version);
+        write(memory, 8, 4, flags);
         write(memory, 12, 8, capacity);
         write(memory, 20, 8, grain_size);
         write(memory, 44, 4, 512);

@@ -31,8 +31,12 @@ impl Run<'_> {
     /// Rows of a frame, by the words of its areas and the length of the list.
     fn count_framed(&mut self, image: &[u8], words: &[u64], room: usize) {
         let tables = words.chunks(3).any(|area| [5, 6].contains(&area[0]));
+        // A table of COWD has 32 sectors.
+        let has = |one: [u64; 3]| words.chunks(3).any(|area| area == one);
         let rows = [
             ("no table", !tables),
+            ("accepted, table at 1", has([5, 1, 4])),
+            ("accepted, copy at 1", has([6, 1, 4])),
             ("refused by the check", plain::check(image).number != 0),
             ("written, exact room", words.len() == room),
             ("written, room left", words.len() < room),

@@ -5,6 +5,7 @@ pub mod far;
 mod frames;
 mod image;
 mod lists;
+mod ones;
 pub mod rng;
 pub mod run;
 pub mod side;

@@ -1,5 +1,6 @@
 //! One call on both sides: compared, counted, and its input saved where the sides differ.
 
+use crate::ones;
 use crate::side::Side;
 use crate::tally::{Call, Tally};
 use plain::{Extent, Verdict, ABSENT, PACKED, STORED, ZERO};
@@ -80,6 +81,7 @@ impl<'a> Run<'a> {
         let answers = self.sides.map(|side| side.check(image));
         self.compare(Call::Check, [&answers[0], &answers[1]], true, &[image], &());
         self.count_accepted(Call::Check, answers[1], image);
+        self.count_ones(Call::Check, answers[1], image);
     }
 
     pub fn header(&mut self, image: &[u8]) {
@@ -104,6 +106,9 @@ impl<'a> Run<'a> {
     pub(crate) fn count_accepted(&mut self, call: Call, verdict: Verdict, image: &[u8]) {
         if verdict.number != 0 {
             self.tally.refused(call, verdict.number);
+            if verdict.number == 5 && ones::flag_alone(image) {
+                self.tally.answered(call, "5, flag 0x4 alone");
+            }
             return;
         }
         let set = |range: std::ops::Range<usize>| image[range].iter().any(|byte| *byte != 0);
@@ -121,6 +126,8 @@ impl<'a> Run<'a> {
                 verdict.capacity > per_table * verdict.grain_size,
             ),
             ("accepted, odd length", image.len() % 512 != 0),
+            ("accepted, 1 is zeros", !cowd && ones::one_is_zero(image)),
+            ("accepted, 1 a sector", !cowd && !ones::one_is_zero(image)),
         ];
         for (row, holds) in rows {
             if holds {
@@ -139,6 +146,7 @@ impl<'a> Run<'a> {
             &sector,
         );
         self.count_located(Call::Lookup, answers[1].number, answers[1].kind);
+        self.count_source(Call::Lookup, answers[1], image, sector);
     }
 
     pub fn chain(&mut self, layers: &[u8], lengths: &[u64], sector: u64) {
@@ -146,10 +154,16 @@ impl<'a> Run<'a> {
         let both = [&answers[0], &answers[1]];
         self.compare(Call::Chain, both, true, &[layers], &(lengths, sector));
         self.count_located(Call::Chain, answers[1].number, answers[1].kind);
-        let top = lengths.len() as u64;
-        if answers[1].number == 0 && answers[1].kind != ABSENT && answers[1].layer + 1 < top {
+        if answers[1].number != 0 {
+            return;
+        }
+        let layer = answers[1].layer as usize;
+        if answers[1].kind != ABSENT && layer + 1 < lengths.len() {
             self.tally.answered(Call::Chain, "under the top layer");
         }
+        let from: u64 = lengths[..layer].iter().sum();
+        let image = &layers[from as usize..(from + lengths[layer]) as usize];
+        self.count_source(Call::Chain, answers[1], image, sector);
     }
 
     fn count_located(&mut self, call: Call, number: u64, kind: u64) {
@@ -182,6 +196,7 @@ impl<'a> Run<'a> {
             _ => "packed",
         };
         self.tally.answered(Call::Read, row);
+        self.count_source(Call::Read, plain::lookup(image, sector), image, sector);
     }
 
     pub fn normal(&mut self, image: &[u8], room: usize) {
@@ -217,10 +232,21 @@ impl<'a> Run<'a> {
         self.compare(call, [&tested, &plain], lent, inputs, &room);
         if plain.number != 0 {
             self.tally.refused(call, plain.number);
-        } else if plain.length == room as u64 {
-            self.tally.answered(call, "written, exact room");
-        } else {
-            self.tally.answered(call, "written, room left");
+            return;
+        }
+        let exact = plain.length == room as u64;
+        let rows = [
+            ("written, exact room", exact),
+            ("written, room left", !exact),
+            (
+                "written, grain at 1",
+                inputs.iter().any(|image| ones::grain_at_1(image)),
+            ),
+        ];
+        for (row, holds) in rows {
+            if holds {
+                self.tally.answered(call, row);
+            }
         }
     }
 

@@ -52,6 +52,9 @@ impl Run<'_> {
                 grain_size: head.grain_size,
             };
             self.count_accepted(Call::Survey, verdict, image);
+            if verdict.number == 0 {
+                self.count_ones(Call::Survey, verdict, image);
+            }
         }
     }
 

@@ -41,7 +41,7 @@ impl Call {
 }
 
 /// Kinds of answers, with the calls that can give them.
-const ANSWERS: [(&str, &[Call]); 23] = [
+const ANSWERS: [(&str, &[Call]); 39] = [
     ("accepted KDMV", &[Check, Header, Frame, Survey]),
     ("accepted COWD", &[Check, Header, Frame, Survey]),
     ("accepted, footer", &[Check, Header, Frame, Survey]),
@@ -50,10 +50,26 @@ const ANSWERS: [(&str, &[Call]); 23] = [
     ("accepted, packed", &[Check, Header, Frame, Survey]),
     ("accepted, n above 1", &[Check, Header, Frame, Survey]),
     ("accepted, odd length", &[Check, Header, Frame, Survey]),
+    // Request A2: what an entry of 1 is and names, and the refusals that it can lead to.
+    ("accepted, 1 is zeros", &[Check, Header, Frame, Survey]),
+    ("accepted, 1 a sector", &[Check, Header, Frame, Survey]),
+    ("accepted, table at 1", &[Check, Frame, Survey]),
+    ("accepted, copy at 1", &[Check, Frame, Survey]),
+    ("accepted, grain at 1", &[Check, Survey]),
+    ("5, flag 0x4 alone", &[Check, Header, Frame, Survey]),
+    ("9, grain at 1", &[Check]),
+    ("11, zeros and absent", &[Check]),
+    ("11, zeros and a table", &[Check]),
+    ("11, 1 and absent", &[Check]),
+    ("11, 1 and a table", &[Check]),
+    ("12, 1 and 2", &[Check]),
+    ("12, entry 1", &[Check]),
     ("absent", &[Lookup, Chain, Survey]),
     ("zero", &[Lookup, Chain, Survey]),
     ("stored", &[Lookup, Chain, Read, Survey]),
     ("packed", &[Lookup, Chain, Read, Survey]),
+    ("stored at 1", &[Lookup, Chain, Read]),
+    ("packed at 1", &[Lookup, Chain, Read]),
     ("under the top layer", &[Chain]),
     ("empty part", &[Read]),
     ("no table", &[Frame]),
@@ -62,6 +78,7 @@ const ANSWERS: [(&str, &[Call]); 23] = [
     ("1,024 images", &[Survey]),
     ("written, exact room", &[Frame, Survey, Normal, Collapse]),
     ("written, room left", &[Frame, Survey, Normal, Collapse]),
+    ("written, grain at 1", &[Normal, Collapse]),
     ("described", &[Descriptor]),
     ("described, 32 extents", &[Descriptor]),
     ("found", &[Find]),

@@ -22,7 +22,7 @@ fn any(most_sectors: u64) -> Plan {
 
 #[test]
 fn sound_images_are_accepted() {
-    let mut sizes = BTreeSet::new();
+    let (mut sizes, mut heads) = (BTreeSet::new(), BTreeSet::new());
     for case in 0..3000 {
         let rng = &mut Rng::new(5, case);
         let mut built = sound(rng, suited(any(2100), case));
@@ -36,11 +36,16 @@ fn sound_images_are_accepted() {
                 sizes.insert((shape.cowd, shape.packed, shape.grain_size));
             }
         }
+        if !shape.cowd {
+            heads.insert((shape.version, shape.flags & 0x4));
+        }
         unused(rng, &mut built);
         assert_eq!(check(&built.bytes), verdict, "{case}: {:?}", built.shape);
     }
     // 12 sizes of COWD, and 9 of KDMV, stored and packed.
     assert_eq!(sizes.len(), 12 + 9 + 9, "{sizes:?}");
+    // Flag 0x4, or not, in each version but the first.
+    assert!(heads.iter().eq(&[(1, 0), (2, 0), (2, 4), (3, 0), (3, 4)]));
 }
 
 #[test]
@@ -54,9 +59,8 @@ fn lookups_find_what_was_built() {
             let sector = grain * shape.grain_size;
             let located = lookup(&built.bytes, sector);
             let index = grain / per_table;
-            let one = !shape.cowd && (shape.ones == 1 || (shape.ones == 2 && index % 2 == 1));
             let kind = match shape.tables.get(&index) {
-                None if one => ZERO,
+                None if shape.is_one(index) => ZERO,
                 None => ABSENT,
                 Some(cells) => match cells.get(&(grain % per_table)) {
                     None => ABSENT,
@@ -121,10 +125,9 @@ fn surveys_count_what_was_built() {
         let mut counts = [0; 4];
         for index in 0..shape.entries() {
             let grains = shape.grains_of(index);
-            let one = !shape.cowd && (shape.ones == 1 || (shape.ones == 2 && index % 2 == 1));
             let cells = match shape.tables.get(&index) {
                 None => {
-                    counts[if one { 1 } else { 2 }] += grains;
+                    counts[if shape.is_one(index) { 1 } else { 2 }] += grains;
                     continue;
                 }
                 Some(cells) => cells,

@@ -56,7 +56,7 @@ fn grains(image: &Image) -> Vec<(u64, u64)> {
     grains
 }
 
-/// Refusal 11: the redundant directory has 0 and 1 where the primary has, and its tables equal the primary's.
+/// Refusal 11: the redundant directory has absent, zero and tables where the primary has, and equal tables.
 fn judge_copies(image: &Image) -> Result<(), Refusal> {
     if image.header.redundant == 0 {
         return Ok(());

@@ -17,6 +17,8 @@ pub struct Header {
     pub grain_size: u64,
     /// KDMV's flags; 0 for COWD, whose flags are not judged.
     pub flags: u64,
+    /// Whether an entry of 1 means zeros; otherwise it is a sector.
+    pub one_is_zero: bool,
     pub descriptor: u64,
     pub descriptor_sectors: u64,
     /// 0 for none.
@@ -111,6 +113,7 @@ fn kdmv(image: &[u8]) -> Result<Header, Refusal> {
     let compressed = flags & COMPRESSED != 0;
     let markers = flags & MARKERS != 0;
     if flags & !ALL_FLAGS != 0
+        || (flags & ZEROED != 0 && version == 1)
         || compression > 1
         || (compression == 1) != compressed
         || (markers && !compressed)
@@ -135,6 +138,7 @@ fn kdmv(image: &[u8]) -> Result<Header, Refusal> {
         capacity,
         grain_size,
         flags,
+        one_is_zero: version >= 2 && flags & ZEROED != 0,
         descriptor: number(image, 28, 8),
         descriptor_sectors: number(image, 36, 8),
         redundant,
@@ -184,6 +188,7 @@ fn cowd(image: &[u8]) -> Result<Header, Refusal> {
         capacity,
         grain_size,
         flags: 0,
+        one_is_zero: false,
         descriptor: 0,
         descriptor_sectors: 0,
         redundant: 0,

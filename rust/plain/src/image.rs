@@ -1,7 +1,7 @@
 //! Entries and grains of an image whose header is known.
 
 use crate::answers::{refusal, Refusal};
-use crate::header::{Header, Kind};
+use crate::header::Header;
 use crate::numbers::{number, past, sector, up, whole_sectors, SECTOR};
 
 /// What a directory or table entry says.
@@ -25,12 +25,12 @@ impl<'a> Image<'a> {
         whole_sectors(self.bytes)
     }
 
-    /// Document 01's entry table: 1 is zeros in KDMV and a sector in COWD.
+    /// Document 01's entry table, as request A2 amends it: the header says what 1 is.
     fn meaning(&self, entry: u64) -> Entry {
-        match (self.header.kind, entry) {
-            (_, 0) => Entry::Absent,
-            (Kind::Kdmv, 1) => Entry::Zero,
-            (_, at) => Entry::Sector(at),
+        match entry {
+            0 => Entry::Absent,
+            1 if self.header.one_is_zero => Entry::Zero,
+            at => Entry::Sector(at),
         }
     }
 

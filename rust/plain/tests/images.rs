@@ -133,7 +133,7 @@ fn sums_do_not_wrap() {
 #[test]
 fn packed_grains_and_footer() {
     let mut image = kdmv(16, 8, 12);
-    put32(&mut image, 8, 0x30001);
+    put32(&mut image, 8, 0x30005);
     image[77] = 1;
     put64(&mut image, 56, u64::MAX);
     set(&mut image, 0, 1);

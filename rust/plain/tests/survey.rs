@@ -184,7 +184,7 @@ fn packed_grains() {
     assert_eq!(counts(&stream()), [0, 1, 1, 2]);
     // Compressed without markers, where a directory entry of 1 is zeros too.
     let mut image = kdmv(4097, 8, 7);
-    put32(&mut image, 8, 0x10001);
+    put32(&mut image, 8, 0x10005);
     image[77] = 1;
     put_entries(&mut image, 1, &[2, 1]);
     set(&mut image, 0, 6);

@@ -20,7 +20,7 @@ fn stored_files() {
 #[test]
 fn small_input() {
     let input = std::fs::read(root().join("crates/cases/stdin")).unwrap();
-    assert!(input.len() <= 1_600_000, "{} bytes", input.len());
+    assert!(input.len() <= 1_700_000, "{} bytes", input.len());
 }
 
 /// The stored surveys have images of each refusal number of the check.
@@ -34,6 +34,25 @@ fn every_refusal_tallied() {
     for number in 1..=12 {
         let counted = |words: &Vec<&str>| !["0", "170"].contains(&words[number - 1]);
         assert!(words.iter().any(counted), "no image refused {number}");
+    }
+}
+
+/// The stored cases have both meanings of an entry of 1: zeros, and grains, tables and redundant tables at sector 1.
+#[test]
+fn both_meanings_of_1() {
+    let output = std::fs::read_to_string(root().join("crates/cases/stdout")).unwrap();
+    for source in ["1 0 ", "2 1 ", "3 1 "] {
+        let start = format!("lookup 0 0 0 {source}");
+        let found = output.lines().any(|line| line.starts_with(&start));
+        assert!(found, "no {start}");
+    }
+    let frames = output
+        .lines()
+        .filter_map(|line| line.strip_prefix("frame 0 0 "));
+    let words: Vec<Vec<&str>> = frames.map(|words| words.split(' ').collect()).collect();
+    for table in [["5", "1", "4"], ["6", "1", "4"]] {
+        let named = |words: &Vec<&str>| words[1..].chunks(3).any(|area| area == table);
+        assert!(words.iter().any(named), "no table {table:?}");
     }
 }
 

@@ -6,6 +6,8 @@ use crate::rng::Rng;
 /// The numbers of an image; its grains have 8 sectors. One of them, or none, is wrong.
 struct Numbers {
     cowd: bool,
+    /// Version and flags: an entry of 1 is a sector or zeros.
+    head: (u64, u64),
     /// F.
     f: u64,
     n: u64,
@@ -66,6 +68,7 @@ impl Numbers {
         };
         Numbers {
             cowd,
+            head: rng.pick(&[(1, 0), (2, 0), (3, 0), (2, 4), (3, 4)]),
             f,
             n,
             capacity: n * table - rng.pick(&[0, 1, table - 1]),
@@ -92,7 +95,8 @@ impl Numbers {
         }
         image[..512].fill(0);
         image[..4].copy_from_slice(b"KDMV");
-        put(image, 4, 4, 1);
+        put(image, 4, 4, self.head.0);
+        put(image, 8, 4, self.head.1);
         put(image, 44, 4, 512);
         for (at, number) in [
             (12, self.capacity),
@@ -146,7 +150,8 @@ fn descriptor(rng: &mut Rng, f: u64, wrong: bool) -> (u64, u64) {
 /// Makes the image a stream: packed, with its directory's sector in a footer.
 fn write_footer(image: &mut [u8], directory: u64) {
     let footer = image.len() - 1024;
-    put(image, 8, 4, 0x30000);
+    // Flags 0x30000, beside those that are set.
+    put(image, 10, 2, 0x3);
     put(image, 77, 2, 1);
     put(image, 56, 8, u64::MAX);
     image.copy_within(..512, footer);

@@ -78,8 +78,9 @@ fn place(rng: &mut Rng, shape: &Shape, areas: &mut Vec<Area>) -> u64 {
     let mut next = header;
     for area in areas.iter_mut() {
         next += rng.below(gaps);
-        // KDMV's entry 1 is no sector.
-        if next == 1 && matches!(area.what, What::Table(_) | What::Copy(_) | What::Grain(_)) {
+        let named = matches!(area.what, What::Table(_) | What::Copy(_) | What::Grain(_));
+        // Where an entry of 1 means zeros, no entry can name sector 1.
+        if next == 1 && named && shape.one_is_zero() {
             next = 2;
         }
         area.first = next;
@@ -141,8 +142,8 @@ fn write_tables(built: &mut Built) {
             None => continue,
         };
         for index in 0..shape.entries() {
-            let one = !shape.cowd && (shape.ones == 1 || (shape.ones == 2 && index % 2 == 1));
-            put(&mut built.bytes, (at + index * 4) as usize, 4, one.into());
+            let one = shape.is_one(index).into();
+            put(&mut built.bytes, (at + index * 4) as usize, 4, one);
         }
         for (index, cells) in &shape.tables {
             let what = if copy {

@@ -154,8 +154,9 @@ fn entry(rng: &mut Rng, built: &mut Built) {
         let grain = number * shape.per_table() + cell;
         built.asked.push(grain * shape.grain_size);
     }
-    let value = match rng.below(3) {
-        0 => rng.pick(&[0, 1, 2, most(4)]),
+    let value = match rng.below(4) {
+        0 => 1,
+        1 => rng.pick(&[0, 2, most(4)]),
         _ => place(rng, built, sectors, 4),
     };
     if rng.one_in(4) {

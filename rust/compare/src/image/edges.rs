@@ -57,12 +57,12 @@ pub fn header_field(rng: &mut Rng, built: &Built) -> (Field, u64) {
 fn kdmv_field(rng: &mut Rng, built: &Built) -> (Field, u64) {
     let f = built.sectors();
     let directory = built.shape.entries() * 4 / 512 + 1;
-    match rng.below(15) {
+    match rng.below(20) {
         0 => (
             field(0, 4),
             rng.pick(&[0, 0x4457_4f43, 0x564d_444c, 0x554d_444b]),
         ),
-        1 => (
+        1 | 15 => (
             field(4, 4),
             rng.pick(&[0, 1, 2, 3, 4, 0xffff_ffff, 0x0100_0000, 257]),
         ),
@@ -98,11 +98,13 @@ fn kdmv_field(rng: &mut Rng, built: &Built) -> (Field, u64) {
             ]),
             rng.any(),
         ),
-        12 | 13 => (
+        12 | 13 | 16 => (
             field(73 + rng.index(4), 1),
             rng.pick(&[0, 0x0a, 0x0d, 0x20]),
         ),
-        _ => (field(77, 2), rng.pick(&[0, 1, 2, 256, 257, 0xffff])),
+        14 => (field(77, 2), rng.pick(&[0, 1, 2, 256, 257, 0xffff])),
+        // Flag 0x4 alone, as another version does, changes what an entry of 1 is.
+        _ => (field(8, 4), built.shape.flags ^ 0x4),
     }
 }
 

@@ -159,6 +159,9 @@ pub fn copies(rng: &mut Rng, built: &mut Built) {
     if copies.is_empty() {
         return structure(rng, built);
     }
+    if rng.one_in(2) {
+        return one_against(rng, built);
+    }
     let area = &copies[rng.index(copies.len())];
     let used = match area.what {
         What::Copy(index) => built.shape.grains_of(index),
@@ -177,6 +180,32 @@ pub fn copies(rng: &mut Rng, built: &mut Built) {
     let any = rng.any();
     let value = rng.pick(&[0, 1, 2, now ^ 1, now ^ 1 << 31, now.wrapping_add(1), any]);
     built.put(field, value);
+}
+
+/// An entry of one directory becomes 1; the other's stays, or becomes 0 or 2.
+fn one_against(rng: &mut Rng, built: &mut Built) {
+    let mut directories = built.those(|what| matches!(what, What::Directory | What::Redundant));
+    rng.shuffle(&mut directories);
+    let mut indexes = vec![0, built.shape.entries() - 1];
+    indexes.extend(built.shape.tables.keys());
+    let index = rng.pick(&indexes);
+    let [one, other] = [0, 1].map(|which: usize| directories[which].first);
+    let field = |directory: u64| Field {
+        at: (directory * 512 + index * 4) as usize,
+        size: 4,
+    };
+    built.put(field(one), 1);
+    match rng.below(4) {
+        0 => {}
+        1 => built.put(field(other), 0),
+        _ => built.put(field(other), 2),
+    }
+    // So that tables at sectors 1 and 2, which meet, are alike.
+    let tables = built.bytes.get_mut(512..6 * 512);
+    if let (true, Some(bytes)) = (rng.one_in(2) && one.min(other) >= 6, tables) {
+        bytes.fill(0);
+    }
+    ask_about(built, What::Table(index));
 }
 
 /// Entries past those in use, bytes past 512 x F and sectors of no area: none of it may matter.

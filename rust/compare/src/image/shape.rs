@@ -28,7 +28,7 @@ pub struct Shape {
     pub stored_entries: u64,
     /// The directory's entries that have a table, with the table's cells that are not absent.
     pub tables: BTreeMap<u64, BTreeMap<u64, Cell>>,
-    /// Of the other entries, which are 1: none, all, or every second one.
+    /// Of the other entries, which are 1: none, all, or every second one. None where 1 is a sector.
     pub ones: u64,
 }
 
@@ -69,6 +69,16 @@ impl Shape {
             .min(self.grains() - index * self.per_table())
     }
 
+    /// Whether an entry of 1 means zeros; otherwise it is a sector.
+    pub fn one_is_zero(&self) -> bool {
+        !self.cowd && self.version > 1 && self.flags & 0x4 != 0
+    }
+
+    /// Whether directory entry `index`, which has no table, is 1 for zeros.
+    pub fn is_one(&self, index: u64) -> bool {
+        self.ones == 1 || (self.ones == 2 && index % 2 == 1)
+    }
+
     pub fn choose(rng: &mut Rng, plan: Plan) -> Shape {
         let cowd = plan.cowd.unwrap_or_else(|| rng.one_in(4));
         let packed = !cowd && plan.packed.unwrap_or_else(|| rng.one_in(3));
@@ -76,11 +86,12 @@ impl Shape {
         let markers = packed && (plan.footer || !rng.one_in(4));
         let redundant = !cowd && (plan.redundant || rng.one_in(2));
         let newline = rng.one_in(2);
+        let version = if cowd { 1 } else { rng.within(1, 3) };
         let mut flags = 0;
         for (bit, set) in [
             (0x1, newline),
             (0x2, redundant && rng.one_in(2)),
-            (0x4, rng.one_in(2)),
+            (0x4, version > 1 && !rng.one_in(3)),
             (0x10000, packed),
             (0x20000, markers),
         ] {
@@ -88,7 +99,7 @@ impl Shape {
         }
         let mut shape = Shape {
             cowd,
-            version: if cowd { 1 } else { rng.within(1, 3) },
+            version,
             flags: if cowd { rng.any() % (1 << 32) } else { flags },
             capacity,
             grain_size,
@@ -102,8 +113,11 @@ impl Shape {
             },
             stored_entries: 0,
             tables: BTreeMap::new(),
-            ones: rng.below(3),
+            ones: 0,
         };
+        if shape.one_is_zero() {
+            shape.ones = rng.below(3);
+        }
         let n = shape.entries();
         shape.stored_entries = n;
         if cowd && rng.one_in(2) {
@@ -140,7 +154,7 @@ impl Shape {
     fn choose_cells(&self, rng: &mut Rng, index: u64, left: &mut u64) -> BTreeMap<u64, Cell> {
         let grains = self.grains_of(index);
         let mut cells = BTreeMap::new();
-        if !self.cowd {
+        if self.one_is_zero() {
             let zeros = rng.pick(&[0, 0, 2, 30]);
             for _ in 0..zeros {
                 cells.insert(rng.below(grains), Cell::Zero);

@@ -1,5 +1,6 @@
 //! Surveys that count grains wrongly: what a mistake leaves out of an image's row, in the row's order.
 
+use crate::ones::one_is_zero;
 use compare::side::{Plain, Side};
 use plain::{ABSENT, PACKED, STORED};
 
@@ -46,7 +47,7 @@ pub fn without_table(image: &[u8]) -> Counts {
         match entry {
             _ if left == 0 => break,
             [0, 0, 0, 0] => lost[2] += grains - 1,
-            [1, 0, 0, 0] if !cowd => lost[1] += grains - 1,
+            [1, 0, 0, 0] if one_is_zero(image) => lost[1] += grains - 1,
             _ => {}
         }
         left -= grains;
@@ -55,7 +56,7 @@ pub fn without_table(image: &[u8]) -> Counts {
 }
 
 /// Where the directory starts, as the frame tells.
-fn directory(image: &[u8]) -> usize {
+pub fn directory(image: &[u8]) -> usize {
     let mut areas = vec![0; 3 * 4096];
     let framed = Plain.frame(image, &mut areas);
     assert_eq!(framed.number, 0);

@@ -11,7 +11,7 @@ pub fn put_entries(image: &mut [u8], at: usize, entries: &[u32]) {
 
 /// Makes an image packed, with markers; its directory stays where sector 0 says.
 pub fn pack(image: &mut [u8]) {
-    put32(image, 8, 0x30001);
+    put32(image, 8, 0x30005);
     image[77] = 1;
 }
 

@@ -84,8 +84,8 @@ fn wanted(case: &Case, answer: &str) -> u64 {
         (true, _) => 15,
         (false, _) if case.asked == SURVEY => 1,
         (false, true) => 2,
-        // By all its groups one is enough.
-        (false, false) if case.asked == FRAME => 1,
+        // By all its groups, or at sector 1, one is enough.
+        (false, false) if case.asked == FRAME || answer.ends_with("at 1") => 1,
         (false, false) => 3,
     }
 }
@@ -133,8 +133,16 @@ fn kind(case: &Case, line: &str) -> String {
     let cowd = case.bytes.starts_with(b"COWD");
     match call {
         "record" => call.to_string(),
+        // By what an entry of 1 is, or flag 0x4 in version 1.
+        "check" if !cowd && ["0", "5", "11", "12"].contains(&number) => {
+            let (first, flag) = (case.bytes[4] == 1, case.bytes[8] & 0x4);
+            format!("{call} {number} {first} {flag}")
+        }
         "read" => format!("{call} {} {cowd}", number == "0"),
-        "lookup" => format!("{call} {number} {} {cowd}", words[4]),
+        "lookup" => {
+            let at_1 = if !cowd && words[5] == "1" { "at 1" } else { "" };
+            format!("{call} {number} {} {cowd} {at_1}", words[4])
+        }
         "chain" => format!("{call} {number} {}", words[4]),
         "normal" | "collapse" if number == "0" => {
             // By its length too, since the shortest results have no grain.
@@ -142,10 +150,15 @@ fn kind(case: &Case, line: &str) -> String {
             format!("{call} {number} {} {}", length == case.room, length / 8192)
         }
         "frame" if number == "0" => {
-            let mut groups: Vec<&str> = words[4..].chunks(3).map(|area| area[0]).collect();
-            groups.truncate(words[3].parse().unwrap_or(0));
+            let mut areas: Vec<&[&str]> = words[4..].chunks(3).collect();
+            areas.truncate(words[3].parse().unwrap_or(0));
+            let mut groups: Vec<&str> = areas.iter().map(|area| area[0]).collect();
             groups.dedup();
-            format!("{call} {number} {cowd} {}", groups.concat())
+            // A table that an entry of 1 names, whatever else is there.
+            let tables = [["5", "1", "4"], ["6", "1", "4"]];
+            let at_1 = tables.iter().find(|table| areas.contains(&&table[..]));
+            let group = at_1.map_or(groups.concat(), |table| table.concat());
+            format!("{call} {number} {cowd} {group}")
         }
         "survey" if number == "0" => {
             // By the kinds of grains among its totals.

@@ -59,7 +59,7 @@ fn asked(layers: &[Vec<u8>], number: u64, length: usize, out: &[u8]) -> (Case, S
 /// Three grains absent, three zero, three stored. Entry 9 is not used.
 fn lower() -> Vec<u8> {
     [
-        header([1, 1, 1, 0]),
+        header([2, 5, 1, 0]),
         padded(&[2, 0, 0, 0], 512),
         table(&[0, 0, 0, 1, 1, 1, 14, 22, 6, 7]),
         filled(0x18),
@@ -72,7 +72,7 @@ fn lower() -> Vec<u8> {
 /// Absent, zero and stored in turn.
 fn upper() -> Vec<u8> {
     [
-        header([1, 1, 2, 0]),
+        header([2, 5, 2, 0]),
         vec![0; 512],
         padded(&[3, 0, 0, 0], 512),
         table(&[0, 1, 23, 0, 1, 7, 0, 1, 15]),
