@@ -2,11 +2,12 @@
 """Writes the inputs that the program `vmdk_check` is run on, and the line that it must print for each: tests/checks/NAME and
 NAME.line. checks.py [FOLDER] writes them below another folder than tests.
 
-Each verdict is document 01's, written down by hand: a case at least for each refusal number that the program can give, both
-sides of each edge.
+Each verdict is document 01's with request A2, written down by hand: a case at least for each refusal number that the program
+can give, both sides of each edge.
 """
 from asked import main
-from images import ALL_ONES, FOOTER, PACKED, SECTOR, STREAM, cowd, entries, image, kdmv, marker, small, stream
+from images import (ALL_ONES, FOOTER, PACKED, STREAM, STREAMED, ZEROED, at_one, cowd, entries, image, kdmv, marker, small,
+                    stream, stream_at_one, streamed, table_at_one, zeroed)
 
 CASES = {}
 
@@ -60,7 +61,7 @@ for size in (0, 3, 4096):
 accepted("not-judged", small(8, 0, head=kdmv(overhead=2**64 - 1, dirty=1, padding=255)))
 accepted("cowd-not-judged", image(64, (0, cowd(flags=2**32 - 1)), (4, entries(5))))
 accepted("stream", stream())
-refused("sizes-before-footer", stream(head=kdmv(0, flags=0x30001, compression=1, directory=ALL_ONES)), 6)
+refused("sizes-before-footer", stream(head=kdmv(0, directory=ALL_ONES, **STREAMED)), 6)
 refused("stream-cut", stream()[:-1], 7)
 refused("stream-last-byte", stream(last=bytes(511) + b"\1"), 7)
 refused("stream-footer-byte", stream(footer=FOOTER[:511] + b"\1"), 7)
@@ -88,7 +89,7 @@ refused("redundant-table-past", image(16, (0, kdmv(redundant=6)), (1, entries(2)
 accepted("cowd-table-at-end", image(37, (0, cowd(4, 1)), (4, entries(5))), 4, 1)
 refused("cowd-table-past", image(36, (0, cowd(4, 1)), (4, entries(5))), 8)
 accepted("cowd-unused-directory-entry", image(37, (0, cowd(4, 1, count=2)), (4, entries(5, 2**32 - 1))), 4, 1)
-accepted("directory-entry-1", image(16, (0, kdmv()), (1, entries(1))))
+accepted("directory-entry-1", image(2, (0, zeroed()), (1, entries(1))))
 
 refused("places-before-grains", small(9, 0, head=kdmv(descriptor=(6, 11))), 8)
 
@@ -111,13 +112,13 @@ refused("marker-before-copies",
 
 
 # ---- 11
-def copied(primary, copy, directory=entries(2), redundant=entries(7), sectors=32):
-    return image(sectors, (0, kdmv(redundant=6)), (1, directory), (2, primary), (6, redundant), (7, copy))
+def copied(primary, copy, directory=entries(2), redundant=entries(7)):
+    return image(25, (0, zeroed(redundant=6)), (1, directory), (2, primary), (6, redundant), (7, copy))
 
 
 accepted("copies", copied(entries(16, 1), entries(16, 1)))
 refused("copies-differ", copied(entries(16, 1), entries(16, 0)), 11)
-refused("copies-differ-past-zero", copied(entries(0, 16), entries(0, 24)), 11)
+refused("copies-differ-past-zero", copied(entries(0, 16), entries(0, 17)), 11)
 accepted("copies-differ-unused", copied(entries(16, 1, 5), entries(16, 1, 6)))
 refused("copies-zero-and-absent", copied(b"", b"", entries(1), entries(0)), 11)
 refused("copies-table-and-zero", copied(entries(0, 0), b"", entries(2), entries(1)), 11)
@@ -135,19 +136,76 @@ refused("redundant-is-primary", small(0, 0, head=kdmv(redundant=1)), 12)
 refused("redundant-table-is-primary", copied(entries(16, 1), b"", redundant=entries(2)), 12)
 refused("descriptor-on-directory", small(0, 0, head=kdmv(descriptor=(1, 1))), 12)
 refused("descriptor-on-grain", small(8, 0, head=kdmv(descriptor=(15, 1))), 12)
-
-
-def described(at):
-    """A stream whose descriptor stands at a sector."""
-    both = {"flags": 0x30001, "compression": 1, "descriptor": (at, 1)}
-    return stream(head=kdmv(directory=ALL_ONES, **both), footer=kdmv(directory=1, **both))
-
-
-refused("footer-shared", described(7), 12)
-refused("last-sector-shared", described(8), 12)
+refused("footer-shared", streamed(descriptor=(7, 1)), 12)
+refused("last-sector-shared", streamed(descriptor=(8, 1)), 12)
 accepted("unused-entry", small(8, 0, 2**32 - 1))
 accepted("cowd", image(64, (0, cowd(16, 8)), (4, entries(5)), (5, entries(48, 56))))
 refused("cowd-grain-in-table", image(64, (0, cowd(16, 8)), (4, entries(5)), (5, entries(36, 56))), 12)
+
+# ---- an entry of 1 in KDMV: zeros in version 2 and 3 with flag 0x4, else a sector like any other
+# in a table: a grain of sectors 1 to 8, which end with the file, a sector past it, before the directory or in it
+refused("entry-1-on-directory", small(1, 0, sectors=9), 12)
+refused("entry-1-past", small(1, 0, sectors=8), 9)
+accepted("entry-1-free", at_one(b"", 1, 0))
+refused("entry-1-on-directory-alone", at_one(b"", 1, 0, directory=8), 12)
+# in a directory: a table of sectors 1 to 4
+accepted("directory-entry-1-free", table_at_one(0, 0))
+refused("directory-entry-1-past", image(4, (0, kdmv(directory=3)), (3, entries(1))), 8)
+refused("directory-entry-1-on-directory", image(5, (0, kdmv(directory=4)), (4, entries(1))), 12)
+accepted("directory-entry-1-unused", image(2, (0, kdmv(4096)), (1, entries(0, 1))), 4096)
+# the directory is its own table; that begins with 1 too, and sectors 1 to 8 are a grain
+refused("directory-entry-1-itself", image(9, (0, kdmv()), (1, entries(1))), 12)
+# by version and flag 0x4, in files without room for a grain or a table at sector 1
+for version in (2, 3):
+    refused(f"entry-1-version-{version}", small(0, 1, head=kdmv(version=version), sectors=6), 9, 1)
+    refused(f"directory-entry-1-version-{version}", image(2, (0, kdmv(version=version)), (1, entries(1))), 8)
+    accepted(f"entry-1-zeroed-{version}", small(0, 1, head=zeroed(version=version), sectors=6))
+accepted("directory-entry-1-zeroed-3", image(2, (0, zeroed(version=3)), (1, entries(1))))
+accepted("directory-entry-1-flag-4-alone", image(2, (0, zeroed(flags=4)), (1, entries(1))))
+refused("directory-entry-1-flags-0", image(2, (0, kdmv(version=2, flags=0)), (1, entries(1))), 8)
+
+# ---- flag 0x4 in version 1: 5, after 3 and 4, before 6 and 7
+refused("flag-4-version-1", small(0, 1, head=zeroed(version=1), sectors=6), 5)
+refused("flag-4-alone-version-1", kdmv(flags=4), 5)
+refused("flags-7-version-1", kdmv(flags=7, redundant=6), 5)
+refused("flags-10005-version-1", kdmv(flags=0x10005, compression=1), 5)
+refused("flag-4-version-0", zeroed(version=0), 3)
+refused("flag-4-version-4", zeroed(version=4), 3)
+refused("newline-before-flag-4", kdmv(flags=5, newline=b"\r \n\n"), 4)
+refused("flag-4-before-sizes", kdmv(0, flags=5), 5)
+refused("flag-4-before-footer", kdmv(flags=0x30005, compression=1, directory=ALL_ONES), 5)
+
+# ---- packed grains and streams, where an entry is 1
+LOW = {"directory": 2, "flags": 0x10001, "compression": 1}
+accepted("packed-at-1", at_one(marker(0, 500), 1, 0, **LOW))
+refused("packed-at-1-on-directory", at_one(marker(0, 501), 1, 0, **LOW), 12)
+# the directory is no marker
+refused("packed-entry-1", image(6, (0, PACKED), (1, entries(2)), (2, entries(0, 1))), 10, 1)
+accepted("packed-entry-1-zeroed",
+         image(6, (0, kdmv(version=3, flags=0x10005, compression=1)), (1, entries(2)), (2, entries(0, 1))))
+refused("stream-without-flag-4", streamed(flags=0x30001), 10, 1)
+accepted("stream-at-1", stream_at_one(version=1, flags=0x30001))
+
+
+# ---- 11, by what an entry of 1 means
+def doubled(directory, redundant, *parts, sectors=7, at=5, **fields):
+    """Each directory has one entry; tables are all absent but for the parts."""
+    return image(sectors, (0, kdmv(directory=at, redundant=at + 1, **fields)), (at, entries(directory)),
+                 (at + 1, entries(redundant)), *parts)
+
+
+accepted("copies-at-1", doubled(1, 7, sectors=11))
+refused("copies-at-1-differ", doubled(1, 7, (7, entries(0, 9)), sectors=11), 11)
+refused("copies-at-1-and-absent", doubled(1, 0), 11)
+# two tables, alike, that share sectors; two that differ; zeros and a table
+refused("copies-at-1-and-2", doubled(1, 2), 12)
+refused("copies-at-1-and-2-differ", doubled(1, 2, (2, entries(0, 9))), 11)
+refused("copies-zero-and-2", doubled(1, 2, **ZEROED), 11)
+# one table in both; zeros in both
+refused("copies-both-at-1", doubled(1, 1), 12)
+accepted("copies-both-zero-flags-7", doubled(1, 1, version=3, flags=7))
+# zeros, and a table of zeros
+refused("copies-zero-and-zeros", doubled(1, 3, (3, entries(1, 1)), at=1, **ZEROED), 11)
 
 # ---- lengths
 accepted("last-sector-cut", small(8, 0) + bytes(511))

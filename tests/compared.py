@@ -1,5 +1,5 @@
 #!/usr/bin/env python3
-"""Makes twenty broken images, asks four programs about each, and prints what they answered as a table: compared.py [--write].
+"""Makes twenty-two broken images, asks four programs about each, and prints what they answered: compared.py [--write].
 
 Needs the tool (rust/tool/run), qemu-img (Debian's qemu-utils), vmdkinfo (libvmdk-utils) and 7z (p7zip-full). With --write the
 table in docs/COMPARED.md is replaced. Each image stands in a folder of its own, under the name that its descriptor has.
@@ -107,6 +107,9 @@ def images():
         ("18", "plain, grains 0 and 1 at one place", *base(*both(1, 128))),
         ("19", "plain, grain 1 on the primary table", *base(*both(1, 27))),
         ("20", "plain, the descriptor over the directories", *base(number(36, 8, 26))),
+        # Of version 1: an entry of 1 is file sector 1, where the descriptor stands, and never zeros.
+        ("21", "plain, version 1, the entry of grain 1 is 1", *base(*both(1, 1))),
+        ("22", "plain, version 1, the same with flag 0x4", *base(number(8, 4, 7), *both(1, 1))),
     ]
 
 

@@ -2,12 +2,13 @@
 """Writes tests/cases/frames, which the program `cases` is run on, and what it must print. frames.py [FOLDER] writes it below
 another folder than tests.
 
-Each case has a label, an image, built byte by byte, and the areas that document 01 gives it beside its grains, or the refusal,
-written down by hand: both sides of each edge. The list is lent as long as the areas need, or as `room` says, and all of it is
-printed. Nothing here reads an image.
+Each case has a label, an image, built byte by byte, and the areas that document 01, with request A2, gives it beside its
+grains, or the refusal, written down by hand: both sides of each edge. The list is lent as long as the areas need, or as `room`
+says, and all of it is printed. Nothing here reads an image.
 """
 from asked import FRAME, case, label, line, main, write_cases
-from images import ALL_ONES, FOOTER, PACKED, SECTOR, STREAM, cowd, entries, image, kdmv, marker, small, stream
+from images import (ALL_ONES, FOOTER, PACKED, SECTOR, STREAM, STREAMED, cowd, entries, image, kdmv, marker, small, stream,
+                    zeroed)
 
 # The groups of areas, in the list's order.
 HEADER, DESCRIPTOR, DIRECTORY, REDUNDANT, TABLE, COPY, FOOTER_SECTOR, LAST_SECTOR = range(1, 9)
@@ -47,18 +48,25 @@ framed("descriptor", empty(kdmv(descriptor=(2, 3))), (HEADER, 0, 1), (DESCRIPTOR
 framed("redundant", image(11, (0, kdmv(redundant=6)), (1, entries(2)), (6, entries(7))),
        (HEADER, 0, 1), (DIRECTORY, 1, 1), (REDUNDANT, 6, 1), (TABLE, 2, 4), (COPY, 7, 4))
 # every group; the later an area is in the list, the earlier it stands in the file, by entries too
-ORDER = dict(capacity=4 * 4096, flags=0x30001, compression=1, descriptor=(20, 2), redundant=18)
+ORDER = dict(capacity=4 * 4096, descriptor=(20, 2), redundant=18, **STREAMED)
 framed("all-groups",
        image(24, (0, kdmv(directory=ALL_ONES, **ORDER)), (19, entries(14, 0, 10, 1, 99)), (18, entries(6, 1, 2, 0, 99)),
              (22, kdmv(directory=19, **ORDER))),
        (HEADER, 0, 1), (DESCRIPTOR, 20, 2), (DIRECTORY, 19, 1), (REDUNDANT, 18, 1), (TABLE, 14, 4), (TABLE, 10, 4),
        (COPY, 6, 4), (COPY, 2, 4), (FOOTER_SECTOR, 22, 1), (LAST_SECTOR, 23, 1))
-# entry 0 and 1 name no table in KDMV, 1 is a sector in COWD
+# entry 0 names no table, nor does 1 in KDMV of version 2 or 3 with flag 0x4; elsewhere 1 is a sector
 framed("entry-0", empty(kdmv()), (HEADER, 0, 1), (DIRECTORY, 1, 1))
-framed("entry-1", image(6, (0, kdmv()), (1, entries(1))), (HEADER, 0, 1), (DIRECTORY, 1, 1))
+framed("entry-1", image(6, (0, zeroed()), (1, entries(1))), (HEADER, 0, 1), (DIRECTORY, 1, 1))
 framed("entry-2", image(6, (0, kdmv()), (1, entries(2))), (HEADER, 0, 1), (DIRECTORY, 1, 1), (TABLE, 2, 4))
-framed("redundant-entry-1", image(6, (0, kdmv(redundant=2)), (2, entries(1))),
+framed("redundant-entry-1", image(6, (0, zeroed(redundant=2)), (2, entries(1))),
        (HEADER, 0, 1), (DIRECTORY, 1, 1), (REDUNDANT, 2, 1))
+for version in (1, 2, 3):
+    framed(f"entry-1-version-{version}", image(5, (0, kdmv(version=version)), (1, entries(1))),
+           (HEADER, 0, 1), (DIRECTORY, 1, 1), (TABLE, 1, 4))
+framed("entry-1-zeroed-3", image(2, (0, zeroed(version=3)), (1, entries(1))), (HEADER, 0, 1), (DIRECTORY, 1, 1))
+framed("entry-1-flag-4-alone", image(2, (0, zeroed(flags=4)), (1, entries(1))), (HEADER, 0, 1), (DIRECTORY, 1, 1))
+framed("entries-1-and-2", image(6, (0, kdmv(redundant=2)), (1, entries(1)), (2, entries(2))),
+       (HEADER, 0, 1), (DIRECTORY, 1, 1), (REDUNDANT, 2, 1), (TABLE, 1, 4), (COPY, 2, 4))
 framed("cowd-entry-0", empty(cowd(), 36), (HEADER, 0, 4), (DIRECTORY, 4, 1))
 framed("cowd-entry-1", image(36, (0, cowd()), (4, entries(1))), (HEADER, 0, 4), (DIRECTORY, 4, 1), (TABLE, 1, 32))
 # n entries count: 512 grains of 8 sectors have one, one sector more makes two; COWD has 4,096 grains to an entry
@@ -82,13 +90,18 @@ framed("cowd-count-129", empty(cowd(count=129)), (HEADER, 0, 4), (DIRECTORY, 4, 
 framed("stream", stream(), (HEADER, 0, 1), (DIRECTORY, 1, 1), (TABLE, 2, 4), (FOOTER_SECTOR, 7, 1), (LAST_SECTOR, 8, 1))
 framed("stream-4-sectors", image(4, (0, STREAM), (2, FOOTER)),
        (HEADER, 0, 1), (DIRECTORY, 1, 1), (FOOTER_SECTOR, 2, 1), (LAST_SECTOR, 3, 1))
+framed("stream-entry-1", image(4, (0, STREAM), (1, entries(1)), (2, FOOTER)),
+       (HEADER, 0, 1), (DIRECTORY, 1, 1), (FOOTER_SECTOR, 2, 1), (LAST_SECTOR, 3, 1))
+STREAM_1, FOOTER_1 = (kdmv(directory=at, flags=0x30001, compression=1) for at in (ALL_ONES, 1))
+framed("stream-entry-1-version-1", image(5, (0, STREAM_1), (1, entries(1)), (3, FOOTER_1)),
+       (HEADER, 0, 1), (DIRECTORY, 1, 1), (TABLE, 1, 4), (FOOTER_SECTOR, 3, 1), (LAST_SECTOR, 4, 1))
 framed("markers-without-footer", stream(head=FOOTER), (HEADER, 0, 1), (DIRECTORY, 1, 1), (TABLE, 2, 4))
 
 # ---- what is not judged: grains (9, 10), the copies (11), areas that meet (12), bytes past F
 framed("grain-past", small(2**32 - 1, 0), (HEADER, 0, 1), (DIRECTORY, 1, 1), (TABLE, 2, 4))
 framed("packed-other-grain", image(7, (0, PACKED), (1, entries(2)), (2, entries(0, 6)), (6, marker(0, 5))),
        (HEADER, 0, 1), (DIRECTORY, 1, 1), (TABLE, 2, 4))
-framed("copies-differ", image(12, (0, kdmv(3 * 4096, redundant=6)), (1, entries(2, 0, 1)), (6, entries(0, 7, 8))),
+framed("copies-differ", image(12, (0, zeroed(3 * 4096, redundant=6)), (1, entries(2, 0, 1)), (6, entries(0, 7, 8))),
        (HEADER, 0, 1), (DIRECTORY, 1, 1), (REDUNDANT, 6, 1), (TABLE, 2, 4), (COPY, 7, 4), (COPY, 8, 4))
 framed("all-at-one-place", image(6, (0, kdmv(4097, directory=2, redundant=2, descriptor=(2, 1))), (2, entries(2, 2))),
        (HEADER, 0, 1), (DESCRIPTOR, 2, 1), (DIRECTORY, 2, 1), (REDUNDANT, 2, 1), *[(TABLE, 2, 4)] * 2, *[(COPY, 2, 4)] * 2)
@@ -117,6 +130,9 @@ for name, at, group in (("table", 1, TABLE), ("copy", 2, COPY)):
            (HEADER, 0, 1), (DIRECTORY, 1, 1), (REDUNDANT, 2, 1), (group, 3, 4))
     for number in (4, 7, 2**32 - 1):
         refused(f"{name}-{number}", image(7, (0, kdmv(redundant=2)), (at, entries(number)), extra=511), 8)
+    framed(f"{name}-at-1", image(5, (0, kdmv(redundant=2)), (at, entries(1))),
+           (HEADER, 0, 1), (DIRECTORY, 1, 1), (REDUNDANT, 2, 1), (group, 1, 4))
+    refused(f"{name}-at-1-past", image(4, (0, kdmv(redundant=2)), (at, entries(1)), extra=511), 8)
 framed("cowd-table-at-end", image(38, (0, cowd()), (4, entries(6))), (HEADER, 0, 4), (DIRECTORY, 4, 1), (TABLE, 6, 32))
 refused("cowd-table-past", image(38, (0, cowd()), (4, entries(7))), 8)
 refused("last-table-past", image(9, (0, kdmv(4097)), (1, entries(2, 6))), 8)
@@ -132,6 +148,12 @@ refused("cowd-version-2", empty(cowd(version=2)), 3)
 refused("newline", empty(kdmv(newline=b"\n \n\n")), 4)
 refused("redundant-missing", empty(kdmv(flags=3)), 5)
 refused("end-without-markers", empty(kdmv(directory=ALL_ONES)), 5)
+refused("flag-4-version-1", empty(zeroed(version=1), 2), 5)
+framed("flag-4-version-2", empty(zeroed(), 2), (HEADER, 0, 1), (DIRECTORY, 1, 1))
+refused("flag-4-version-4", zeroed(version=4), 3)
+refused("newline-before-flag-4", kdmv(flags=5, newline=b"\n \n\n"), 4)
+refused("flag-4-before-sizes", kdmv(0, flags=5), 5)
+refused("flag-4-before-footer", kdmv(flags=0x30005, compression=1, directory=ALL_ONES), 5)
 refused("grain-size-4", empty(kdmv(size=4)), 6)
 refused("cowd-count-0", empty(cowd(count=0)), 6)
 refused("stream-3-sectors", image(3, (0, STREAM), (1, FOOTER)), 7)

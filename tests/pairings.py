@@ -10,7 +10,7 @@ import random
 import struct
 
 from asked import COLLAPSE, case, digest, label, line, main, write_cases
-from images import SECTOR, cowd, entries, image, kdmv, small
+from images import SECTOR, at_one, cowd, entries, image, kdmv, small, table_at_one, zeroed
 
 ZERO = "zero"
 MARK = b"\xaa"
@@ -89,7 +89,7 @@ def layer(capacity, size, grains, shuffle=0, whole=True, tail=b"", redundant=Fal
             if told:
                 parts.append((directory[t], entries(*(number[512 * t:512 * t + 512] + [7] * 512)[:512])))
     parts += [(at, grains[g]) for g, at in found.items()]
-    head = kdmv(capacity, size, copies[0], descriptor=description, redundant=copies[1] if redundant else 0, flags=5)
+    head = zeroed(capacity, size, copies[0], descriptor=description, redundant=copies[1] if redundant else 0)
     return image(here, (0, head), *parts) + tail
 
 
@@ -193,6 +193,17 @@ refused("check-before-23", 3, image(64, (0, cowd(version=2))), room=0)
 refused("23-before-21", 23, COWD, room=0)
 refused("capacities-differ", 22, LOW, WIDE, room=0)
 refused("grain-sizes-differ", 22, LOW, small(8, 0, head=kdmv(size=16), sectors=32))
+
+# ---- entries of 1, in each layer by its own header: the sector of a grain or of a table, or zeros
+AT_ONE, TABLE_AT_ONE = at_one(A, 1, 0), table_at_one(0, 6, version=3) + B
+ZEROS, ZERO_FIRST = small(1, 1, head=zeroed(), sectors=6), small(1, 0, head=zeroed(version=3), sectors=6)
+written("entry-1", [AT_ONE], collapsed(16, 8, [A, None]), 8192)
+written("entry-1-over-zeros", [ZEROS, AT_ONE], collapsed(16, 8, [A, ZERO]), 8192)
+told("entry-1-in-three-layers", [AT_ONE, ZERO_FIRST, TABLE_AT_ONE], 0, 0, collapsed(16, 8, [ZERO, B]), orders=2)
+EMPTY = image(2, (0, kdmv()))
+refused("upper-entry-1-past", 9, EMPTY, small(0, 1, sectors=6), place=1)
+refused("flag-4-version-1", 5, zeroed(version=1))
+refused("upper-flag-4-version-1", 5, EMPTY, zeroed(version=1))
 
 
 def write(folder):

@@ -2,13 +2,15 @@
 """Writes tests/cases/sectors, which the program `cases` is run on, and what it must print. sectors.py [FOLDER] writes it below
 another folder than tests.
 
-Each case has a label, an image or a chain, built byte by byte, and sectors with the answer that document 01 gives for each,
-written down by hand: both sides of each edge. Nothing here reads an image but for the bytes that an answer names.
+Each case has a label, an image or a chain, built byte by byte, and sectors with the answer that document 01, with request A2,
+gives for each, written down by hand: both sides of each edge. Nothing here reads an image but for the bytes that an answer
+names.
 """
 import struct
 
 from asked import CHAIN, LOOKUPS, case, digest, label, line, main, write_cases
-from images import ALL_ONES, FOOTER, PACKED, SECTOR, STREAM, cowd, entries, image, kdmv, marker, small, stream
+from images import (ALL_ONES, FOOTER, PACKED, SECTOR, STREAM, at_one, cowd, entries, image, kdmv, marker, small, stream,
+                    streamed, table_at_one, zeroed)
 
 
 # ---- answers: number, layer, place, kind, sector, size, offset
@@ -68,9 +70,10 @@ lookups("sample-of-000",
         image(384, (0, kdmv(8192, 128, 26)), (26, entries(27)), (27, entries(128, 0, 256)), (128, numbered(256))),
         (0, stored(128)), (2, stored(130)), (127, stored(255)), (128, absent()), (255, absent()), (256, stored(256)),
         (383, stored(383)), (384, absent()), (8191, absent()), (8192, refused(20)), (ALL_ONES, refused(20)))
-# entry 1 is zeros in KDMV, in tables and directories, and a sector in COWD
-lookups("table-entry-1", small(1, 8), (0, zero()), (7, zero()), (8, stored(8)), (15, stored(15)), (16, refused(20)))
-lookups("directory-entry-1", image(16, (0, kdmv()), (1, entries(1))), (0, zero()), (15, zero()))
+# entry 1 is zeros in KDMV of version 2 or 3 with flag 0x4, in tables and directories, and a sector in COWD
+lookups("table-entry-1", small(1, 8, head=zeroed()), (0, zero()), (7, zero()), (8, stored(8)), (15, stored(15)),
+        (16, refused(20)))
+lookups("directory-entry-1", image(2, (0, zeroed()), (1, entries(1))), (0, zero()), (15, zero()))
 lookups("directory-entry-0", image(16, (0, kdmv())), (0, absent()), (15, absent()))
 lookups("cowd-table-entry-1", image(37, (0, cowd(4, 1)), (4, entries(5)), (5, entries(1, 0, 36, 37))),
         (0, stored(1)), (1, absent()), (2, stored(36)), (3, refused(9, 3)), (4, refused(20)))
@@ -82,7 +85,7 @@ lookups("cowd-second-table",
         image(71, (0, cowd(4097, 1, count=2)), (4, entries(5, 37)), (5, entries(*[0] * 4095, 69)), (37, entries(70))),
         (4094, absent()), (4095, stored(69)), (4096, stored(70)), (4097, refused(20)))
 lookups("primary-directory",
-        image(32, (0, kdmv(redundant=6)), (1, entries(2)), (2, entries(16, 1)), (6, entries(7)), (7, entries(24, 0))),
+        image(25, (0, zeroed(redundant=6)), (1, entries(2)), (2, entries(16, 1)), (6, entries(7)), (7, entries(17, 0))),
         (0, stored(16)), (8, zero()))
 # 1 and 2
 lookups("no-bytes", b"", (0, refused(1)))
@@ -101,7 +104,7 @@ lookups("newline-not-tested", small(0, 0, head=kdmv(newline=b"\n \n\n", flags=0)
 # 5
 for flags in (0x8, 0x8001, 0x40001, 0x80000001):
     lookups(f"flags-{flags:x}", small(0, 0, head=kdmv(flags=flags)), (0, refused(5)))
-lookups("flags-30007", small(0, 0, head=kdmv(flags=0x30007, compression=1, redundant=9)), (0, absent()))
+lookups("flags-30007", small(0, 0, head=kdmv(version=3, flags=0x30007, compression=1, redundant=9), sectors=6), (0, absent()))
 lookups("compression-unflagged", small(0, 0, head=kdmv(compression=1)), (0, refused(5)))
 lookups("compression-2", small(0, 0, head=kdmv(compression=2)), (0, refused(5)))
 lookups("compressed-compression-0", small(0, 0, head=kdmv(flags=0x10001)), (0, refused(5)))
@@ -109,7 +112,7 @@ lookups("markers-alone", small(0, 0, head=kdmv(flags=0x20001)), (0, refused(5)))
 lookups("redundant-missing", small(0, 0, head=kdmv(flags=3)), (0, refused(5)))
 lookups("redundant-there", small(0, 0, head=kdmv(flags=3, redundant=9)), (0, absent()))
 lookups("end-without-markers", small(0, 0, head=kdmv(directory=ALL_ONES)), (0, refused(5)))
-lookups("redundant-past", small(0, 0, head=kdmv(flags=7, redundant=2**64 - 1)), (0, absent()))
+lookups("redundant-past", small(0, 0, head=zeroed(flags=7, redundant=2**64 - 1), sectors=6), (0, absent()))
 # 6
 for capacity in (0, 2**31 + 1, 2**63):
     lookups(f"capacity-{capacity}", small(0, 0, head=kdmv(capacity)), (0, refused(6)))
@@ -173,8 +176,38 @@ lookups("stream-directory-0", stream(footer=FOOTER[:56] + bytes(8) + FOOTER[64:]
 lookups("stream-3-sectors", image(3, (0, STREAM), (1, FOOTER)), (0, refused(7)))
 lookups("stream-4-sectors", image(4, (0, STREAM), (2, FOOTER)), (0, absent()))
 
+# ---- an entry of 1 that is a sector: version 1, or no flag 0x4
+lookups("entry-1-free", at_one(numbered(8), 1, 0), (0, stored(1)), (1, stored(2)), (7, stored(8)), (8, absent()))
+# the lookup does not judge that the directory stands there
+lookups("entry-1-on-directory", small(0, 1, sectors=9), (7, absent()), (8, stored(1)), (15, stored(8)), (16, refused(20)))
+lookups("entry-1-past", small(1, 0, sectors=8), (0, refused(9, 0)), (7, refused(9, 0)), (8, absent()))
+for version in (2, 3):
+    lookups(f"entry-1-version-{version}", small(1, 0, head=kdmv(version=version), sectors=9), (0, stored(1)), (8, absent()))
+lookups("entry-1-zeroed-3", small(1, 0, head=zeroed(version=3), sectors=6), (0, zero()), (8, absent()))
+# a directory's entry of 1 is a table's sector
+lookups("table-at-1", table_at_one(6, 0, sectors=14), (0, stored(6)), (7, stored(13)), (8, absent()))
+lookups("table-at-1-past", image(4, (0, kdmv(directory=3)), (3, entries(1))), (0, refused(8)), (15, refused(8)))
+lookups("table-at-1-at-end", image(5, (0, kdmv(directory=3)), (3, entries(1))), (0, absent()), (15, absent()))
+for version in (2, 3):
+    lookups(f"directory-entry-1-version-{version}", image(2, (0, kdmv(version=version)), (1, entries(1))), (0, refused(8)))
+lookups("directory-entry-1-zeroed-3", image(2, (0, zeroed(version=3)), (1, entries(1))), (0, zero()), (15, zero()))
+lookups("directory-entry-1-flag-4-alone", image(2, (0, zeroed(flags=4)), (1, entries(1))), (0, zero()), (15, zero()))
+# packed: the marker stands at sector 1
+lookups("packed-at-1", at_one(marker(0, 500) + numbered(1)[:500], 1, 0, directory=2, flags=0x10001, compression=1),
+        (0, packed(1, 500, 0)), (7, packed(1, 500, 7)), (8, absent()))
+lookups("stream-without-flag-4", streamed(flags=0x30001), (0, packed(6, 5, 0)), (8, refused(10, 1)))
+# flag 0x4 in version 1: 5, after 3 and 4, before 6, 7 and 20
+for version, number in ((0, 3), (1, 5), (4, 3)):
+    lookups(f"flag-4-version-{version}", zeroed(version=version), (0, refused(number)), (16, refused(number)))
+lookups("flag-4-version-1-entry-1", small(1, 0, head=kdmv(flags=5), sectors=6), (0, refused(5)), (8, refused(5)))
+lookups("flag-4-alone-version-1", kdmv(flags=4), (0, refused(5)))
+lookups("flags-7-version-1", kdmv(flags=7, redundant=9), (0, refused(5)))
+lookups("newline-before-flag-4", kdmv(flags=5, newline=b"\n \n\n"), (0, refused(4)))
+lookups("flag-4-before-sizes", kdmv(0, flags=5), (0, refused(5)))
+lookups("flag-4-before-footer", kdmv(flags=0x30005, compression=1, directory=ALL_ONES), (0, refused(5)))
+
 # ---- the chain
-BASE, MIDDLE, TOP = small(8, 8), small(1, 8), small(0, 0)
+BASE, MIDDLE, TOP = small(8, 8), small(1, 8, head=zeroed()), small(0, 0)
 chain("no-layer", [], (0, refused(24)))
 chain("one-layer", [BASE], (0, stored(8)), (16, refused(20)))
 chain("sixteen-layers", [BASE] * 16, (0, stored(8, 15)))
@@ -201,6 +234,14 @@ chain("packed-over-stored",
       [BASE, image(7, (0, PACKED), (1, entries(2)), (2, entries(6, 0)), (6, marker(0, 500)))],
       (3, packed(6, 500, 3, 1)), (8, stored(8, 0)))
 chain("layers-of-odd-length", [BASE + b"\xff" * 511, MIDDLE + b"\xff"], (0, zero(1)), (8, stored(8, 1)))
+# entries of 1, in each layer by its own header
+chain("entry-1-over-zeros", [small(1, 1, head=zeroed(), sectors=6), small(1, 0, sectors=9)],
+      (0, stored(1, 1)), (7, stored(8, 1)), (8, zero(0)))
+chain("zero-over-entry-1", [small(1, 1, sectors=9), small(1, 0, head=zeroed(), sectors=6)],
+      (0, zero(1)), (8, stored(1, 0)), (15, stored(8, 0)))
+chain("table-at-1-over-zeros", [image(2, (0, zeroed()), (1, entries(1))), table_at_one(0, 0)], (0, zero(0)), (15, zero(0)))
+chain("flag-4-version-1-above", [kdmv(), zeroed(version=1)], (0, refused(5, layer=1)), (16, refused(5, layer=1)))
+chain("flag-4-version-1-below", [zeroed(version=1), kdmv()], (0, refused(5, layer=0)))
 chain("24-before-headers", [b"abcd"], (0, refused(24)), lengths=[3])
 chain("lengths-byte-short", [BASE], (0, refused(24)), lengths=[len(BASE) - 1])
 chain("lengths-byte-long", [BASE], (0, refused(24)), lengths=[len(BASE), 1])

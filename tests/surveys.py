@@ -7,7 +7,7 @@ by hand: both sides of each edge. The totals and the tally are written down too 
 rows' elsewhere. All of both lists is printed. Nothing here reads an image.
 """
 from asked import SURVEY, case, label, line, main, write_cases
-from images import ALL_ONES, PACKED, cowd, entries, image, kdmv, marker, small, stream
+from images import ALL_ONES, PACKED, at_one, cowd, entries, image, kdmv, marker, small, stream, table_at_one, zeroed
 
 # What each word of the lists holds before the call, the words of the tally's list, of the tally, and of a list that is a word
 # too short for it; the program lends such a one if the room is so much more.
@@ -57,45 +57,68 @@ HALF, OVERLAP, PAST = small(8, 0), small(8, 8), small(8, 16)
 # Two absent grains without a table.
 EMPTY = image(2, (0, kdmv()))
 # A table of 512 entries: 1 packed grain, 1 zero, 510 absent.
-TABLE = image(7, (0, kdmv(4096, flags=0x10001, compression=1)), (1, entries(2)), (2, entries(6, 1)), (6, marker(0, 5)))
+TABLE = image(7, (0, zeroed(4096, flags=0x10005, compression=1)), (1, entries(2)), (2, entries(6, 1)), (6, marker(0, 5)))
 
 # ---- the kinds of grains
 surveyed("stored-and-absent", (HALF, full(1, 0, 1, 0)))
-surveyed("zero-and-absent", (small(1, 0), full(0, 1, 1, 0)))
+surveyed("zero-and-absent", (small(1, 0, head=zeroed(), sectors=6), full(0, 1, 1, 0)))
 surveyed("both-stored", (small(8, 16, sectors=24), full(2, 0, 0, 0)))
 surveyed("packed-and-zero", (stream(), full(0, 1, 0, 1)))
 surveyed("packed-table", (TABLE, full(0, 1, 510, 1)))
 surveyed("sample-of-000", (image(384, (0, kdmv(8192, 128, 26)), (26, entries(27)), (27, entries(128, 0, 256))),
                            full(2, 0, 62, 0)))
-# entry 1 is zeros in KDMV; in COWD it is a sector, and here the header's
-surveyed("entry-1", (small(1, 8), full(1, 1, 0, 0)))
+# entry 1 is zeros in KDMV of version 2 or 3 with flag 0x4; in COWD it is a sector, and here the header's
+surveyed("entry-1", (small(1, 8, head=zeroed()), full(1, 1, 0, 0)))
 surveyed("cowd", (image(38, (0, cowd(4, 1)), (4, entries(5)), (5, entries(37, 0, 0, 0))), full(1, 0, 3, 0)))
 surveyed("cowd-entry-1", (image(38, (0, cowd(4, 1)), (4, entries(5)), (5, entries(1))), bad(12)))
 # entries past capacity do not count
 surveyed("unused-entries", (small(8, 0, 1, 1, 2**32 - 1), full(1, 0, 1, 0)))
 
+# ---- an entry of 1 that is a sector: version 1, or no flag 0x4
+surveyed("entry-1-stored", (at_one(b"", 1, 0), full(1, 0, 1, 0)))
+surveyed("entry-1-packed", (at_one(marker(0, 5), 1, 0, directory=2, flags=0x10001, compression=1), full(0, 0, 1, 1)))
+surveyed("table-at-1", (table_at_one(capacity=4096), full(0, 0, 512, 0)),
+         (table_at_one(capacity=4096, version=2, flags=5), full(0, 512, 0, 0)), totals=[0, 512, 512, 0], tally={})
+
+
+# a header's image whose second grain has an entry of 1, and one whose directory has: without room for a grain or a table there
+def second_at_one(version, flags):
+    return small(0, 1, head=kdmv(version=version, flags=flags), sectors=6)
+
+
+def both_at_one(version, flags):
+    return image(2, (0, kdmv(version=version, flags=flags)), (1, entries(1)))
+
+
+surveyed("entry-1-by-version", (second_at_one(2, 1), bad(9, 1)), (second_at_one(3, 1), bad(9, 1)),
+         (second_at_one(3, 5), full(0, 1, 1, 0)), totals=[0, 1, 1, 0], tally={9: 2})
+surveyed("directory-entry-1-by-version", (both_at_one(1, 1), bad(8)), (both_at_one(2, 1), bad(8)), (both_at_one(3, 0), bad(8)),
+         (both_at_one(0, 5), bad(3)), (both_at_one(1, 5), bad(5)), (both_at_one(1, 4), bad(5)),
+         (both_at_one(2, 4), full(0, 2, 0, 0)), (both_at_one(3, 5), full(0, 2, 0, 0)), (both_at_one(4, 5), bad(3)),
+         totals=[0, 4, 0, 0], tally={3: 2, 5: 2, 8: 3})
+
 # ---- the last grain: capacity ends with it, a sector into it, and a sector before its end
-surveyed("capacity-8", (small(8, 1, head=kdmv(8)), full(1, 0, 0, 0)))
-surveyed("capacity-9", (small(8, 1, head=kdmv(9)), full(1, 1, 0, 0)))
-surveyed("capacity-15", (small(8, 1, head=kdmv(15)), full(1, 1, 0, 0)))
-surveyed("capacity-16", (small(8, 1, 1), full(1, 1, 0, 0)))
-surveyed("capacity-17", (small(8, 1, 1, head=kdmv(17)), full(1, 2, 0, 0)))
+surveyed("capacity-8", (small(8, 1, head=zeroed(8)), full(1, 0, 0, 0)))
+surveyed("capacity-9", (small(8, 1, head=zeroed(9)), full(1, 1, 0, 0)))
+surveyed("capacity-15", (small(8, 1, head=zeroed(15)), full(1, 1, 0, 0)))
+surveyed("capacity-16", (small(8, 1, 1, head=zeroed()), full(1, 1, 0, 0)))
+surveyed("capacity-17", (small(8, 1, 1, head=zeroed(17)), full(1, 2, 0, 0)))
 surveyed("capacity-1", (small(8, head=kdmv(1)), full(1, 0, 0, 0)))
 
 # ---- directory entries without a table stand for 512 grains each, the last one for what is left of them
 surveyed("directory-entry-0", (image(2, (0, kdmv(4096))), full(0, 0, 512, 0)))
-surveyed("directory-entry-1", (image(2, (0, kdmv(4096)), (1, entries(1))), full(0, 512, 0, 0)))
-surveyed("directory-entries-0-and-1", (image(2, (0, kdmv(2 * 4096)), (1, entries(0, 1))), full(0, 512, 512, 0)))
-surveyed("last-entry-of-one-grain", (image(2, (0, kdmv(4096 + 1)), (1, entries(0, 1))), full(0, 1, 512, 0)))
-surveyed("last-entry-of-511-grains", (image(2, (0, kdmv(2 * 4096 - 8)), (1, entries(1, 0))), full(0, 512, 511, 0)))
-surveyed("last-entry-of-512-grains", (image(2, (0, kdmv(2 * 4096 - 7)), (1, entries(1, 0))), full(0, 512, 512, 0)))
+surveyed("directory-entry-1", (image(2, (0, zeroed(4096)), (1, entries(1))), full(0, 512, 0, 0)))
+surveyed("directory-entries-0-and-1", (image(2, (0, zeroed(2 * 4096)), (1, entries(0, 1))), full(0, 512, 512, 0)))
+surveyed("last-entry-of-one-grain", (image(2, (0, zeroed(4096 + 1)), (1, entries(0, 1))), full(0, 1, 512, 0)))
+surveyed("last-entry-of-511-grains", (image(2, (0, zeroed(2 * 4096 - 8)), (1, entries(1, 0))), full(0, 512, 511, 0)))
+surveyed("last-entry-of-512-grains", (image(2, (0, zeroed(2 * 4096 - 7)), (1, entries(1, 0))), full(0, 512, 512, 0)))
 surveyed("table-among-none",
-         (image(14, (0, kdmv(3 * 4096)), (1, entries(1, 2, 0)), (2, entries(6, 1))), full(1, 513, 1022, 0)))
+         (image(14, (0, zeroed(3 * 4096)), (1, entries(1, 2, 0)), (2, entries(6, 1))), full(1, 513, 1022, 0)))
 surveyed("packed-without-table", (image(2, (0, kdmv(4096, flags=0x10001, compression=1))), full(0, 0, 512, 0)))
 surveyed("cowd-directory-entry-0", (image(5, (0, cowd(4097, 1, count=2))), full(0, 0, 4097, 0)))
 surveyed("cowd-last-entry",
          (image(38, (0, cowd(4097, 1, count=2)), (4, entries(0, 5)), (5, entries(37, 37))), full(1, 0, 4096, 0)))
-surveyed("capacity-most", (image(17, (0, kdmv(2**31, 2048)), (1, entries(1))), full(0, 512, 2**20 - 512, 0)))
+surveyed("capacity-most", (image(17, (0, zeroed(2**31, 2048)), (1, entries(1))), full(0, 512, 2**20 - 512, 0)))
 
 # ---- a refused image's row, each number and its place; nothing of it is in the totals
 surveyed("each-number",
@@ -104,7 +127,7 @@ surveyed("each-number",
          (small(8, 0, head=kdmv(0)), bad(6)), (stream(extra=1), bad(7)), (small(8, 0, head=kdmv(directory=0)), bad(8)),
          (PAST, bad(9, 1)),
          (image(7, (0, PACKED), (1, entries(2)), (2, entries(0, 6)), (6, marker(0, 5))), bad(10, 1)),
-         (image(12, (0, kdmv(redundant=6)), (1, entries(2)), (2, entries(1)), (6, entries(7))), bad(11)), (OVERLAP, bad(12)),
+         (image(12, (0, zeroed(redundant=6)), (1, entries(2)), (2, entries(1)), (6, entries(7))), bad(11)), (OVERLAP, bad(12)),
          totals=[0, 0, 0, 0], tally=dict.fromkeys(range(1, 13), 1))
 surveyed("refused-beside-accepted", (HALF, full(1, 0, 1, 0)), (OVERLAP, bad(12)), (HALF, full(1, 0, 1, 0)),
          totals=[2, 0, 2, 0], tally={12: 1})
@@ -118,7 +141,7 @@ surveyed("tally-two-numbers", (b"abcd", bad(2)), (OVERLAP, bad(12)), (b"abcde", 
 
 # ---- images end to end: of one capacity or not, of no bytes, the most that the program takes
 surveyed("totals", (HALF, full(1, 0, 1, 0)), (TABLE, full(0, 1, 510, 1)), (stream(), full(0, 1, 0, 1)),
-         (image(2, (0, kdmv(4096)), (1, entries(1))), full(0, 512, 0, 0)), totals=[1, 514, 511, 2], tally={})
+         (image(2, (0, zeroed(4096)), (1, entries(1))), full(0, 512, 0, 0)), totals=[1, 514, 511, 2], tally={})
 surveyed("same-bytes-twice", (HALF, full(1, 0, 1, 0)), (HALF, full(1, 0, 1, 0)), totals=[2, 0, 2, 0])
 surveyed("length-0", (b"", bad(1)), totals=[0, 0, 0, 0], tally={1: 1})
 surveyed("length-0-first", (b"", bad(1)), (HALF, full(1, 0, 1, 0)), (b"", bad(1)), tally={1: 2})
