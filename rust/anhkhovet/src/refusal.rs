@@ -58,7 +58,9 @@ impl Refusal {
             2 => "the file begins with neither KDMV nor COWD, so it is no sparse image",
             3 => "the header has a version that is not known",
             4 => "the header's newline bytes are damaged, as by a copy in text mode",
-            5 => "the header's flags, compression and directory sector do not fit together",
+            5 => {
+                "the header's version, flags, compression and directory sector do not fit together"
+            }
             6 => "the header's capacity, grain size or number of entries is not allowed",
             7 => "the file needs a footer, and its last sectors are not a right one",
             8 => "the descriptor, a directory or a table does not lie inside the file",

@@ -18,6 +18,9 @@ pub fn check(image: &[u8]) -> Option<(u64, u64)> {
     if !known {
         return None;
     }
+    // The lowest entry that is a sector.
+    let zeroed = number32(header, 4) > 1 && number32(header, 8) & 4 != 0;
+    let least = if zeroed { 2 } else { 1 };
     let grains = (capacity + grain_size - 1) / grain_size;
     let tables = (grains + 511) / 512;
 
@@ -30,12 +33,12 @@ pub fn check(image: &[u8]) -> Option<(u64, u64)> {
     for table in entries(image, directory, tables) {
         let used = left.min(512);
         left -= used;
-        if table < 2 {
+        if table < least {
             continue;
         }
         marks.mark(table, 4)?;
         for grain in entries(image, table, used) {
-            if grain >= 2 {
+            if grain >= least {
                 marks.mark(grain, grain_size)?;
             }
         }

@@ -113,8 +113,8 @@ pub fn copy_marker(layer: &Layer, own: &mut [u8], grain: u64) -> Result<(), Fail
 
 fn copy_sector(layer: &Layer, own: &mut [u8], sector: Option<u64>) -> Result<(), Failure> {
     match sector {
-        // Entries of 0 and 1 name no sector.
-        Some(sector) if sector > 1 => copy_parts(layer, own, vec![(sector, sector + 1)]),
+        // An entry of 0 names no sector. One of 1 may: where it means zeros, sector 1 is copied for nothing.
+        Some(sector) if sector > 0 => copy_parts(layer, own, vec![(sector, sector + 1)]),
         _ => Ok(()),
     }
 }

@@ -1,10 +1,11 @@
 //! A small image.
 
-/// Capacity 200, grain size 8, descriptor at 6, grain 2 stored at sector 8, grain 3 zero.
+/// Capacity 200, grain size 8, descriptor at 6, grain 2 stored at sector 8, grain 3 zero: version 2 and flag 0x4.
 pub fn image() -> Vec<u8> {
     let mut image = vec![0; 16 * 512];
     image[..4].copy_from_slice(b"KDMV");
-    image[4] = 1;
+    image[4] = 2;
+    image[8] = 4;
     image[12] = 200;
     image[20] = 8;
     image[28] = 6;

@@ -5,7 +5,7 @@ mod made;
 use crate::failure::Failure;
 use crate::files::Layers;
 use crate::survey::counted;
-use anhkhovet::{ChainRefusal, Group, Refusal};
+use anhkhovet::{ChainRefusal, Group, Refusal, Source};
 use made::image;
 use std::fs;
 use std::path::{Path, PathBuf};
@@ -55,6 +55,8 @@ struct Met {
     /// Sectors that have an answer in an image whose frame is refused.
     broken: u64,
     packed: u64,
+    /// Sectors of a packed grain at sector 1, which an entry of 1 names.
+    at_one: u64,
     chains: u64,
 }
 
@@ -93,7 +95,8 @@ impl Met {
                 "{path:?} {sector}"
             );
             self.broken += u64::from(broken && wanted.is_ok());
-            self.packed += u64::from(matches!(wanted, Ok(anhkhovet::Source::Packed { .. })));
+            self.packed += u64::from(matches!(wanted, Ok(Source::Packed { .. })));
+            self.at_one += u64::from(matches!(wanted, Ok(Source::Packed { sector: 1, .. })));
         }
     }
 
@@ -133,6 +136,10 @@ fn own_bytes_answer_as_the_whole_file() {
     let all = [1, 2, 3, 5, 6, 7, 8, 9, 10, 11, 12];
     assert!(all.iter().all(|&number| met.refused[number] > 0), "{met:?}");
     assert!(
-        met.accepted > IMAGES / 4 && met.broken > 1000 && met.packed > 1000 && met.chains > 1000
+        met.accepted > IMAGES / 4
+            && met.broken > 1000
+            && met.packed > 1000
+            && met.at_one > 100
+            && met.chains > 1000
     );
 }

@@ -4,6 +4,7 @@
 mod disk;
 mod map;
 mod raw;
+mod versions;
 
 use anhkhovet::{
     check, collapse, descriptor, find, frame, header, lookup, normal, Group, Located, Refusal,

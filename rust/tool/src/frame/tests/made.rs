@@ -22,6 +22,8 @@ struct Made {
     chance: Chance,
     /// Sectors so far.
     used: u64,
+    /// Grain 0 is there already: at sector 1, right after the header.
+    early: bool,
 }
 
 /// What an image is to be.
@@ -31,6 +33,8 @@ struct Form {
     packed: bool,
     footer: bool,
     redundant: bool,
+    /// An entry of 1 means zeros.
+    zeroed: bool,
     capacity: u64,
     grain: u64,
 }
@@ -44,6 +48,7 @@ impl Form {
             packed,
             footer: packed && chance.once_in(2),
             redundant: !cowd && chance.once_in(2),
+            zeroed: !cowd && chance.once_in(2),
             capacity: 9000,
             grain: if cowd { 2 } else { 8 },
         }
@@ -55,6 +60,11 @@ impl Form {
         } else {
             512
         }
+    }
+
+    /// How many entries, from 0 on, name no sector.
+    fn none(&self) -> u64 {
+        1 + u64::from(self.zeroed)
     }
 
     fn directory_entries(&self) -> u64 {
@@ -69,6 +79,7 @@ impl Made {
             bytes: Vec::new(),
             chance: Chance(seed.wrapping_mul(0x9e37_79b9_7f4a_7c15) | 1),
             used: 0,
+            early: false,
         }
     }
 
@@ -99,10 +110,18 @@ impl Made {
             // Entries past the last grain may be anything.
             return self.chance.below(1 << 32);
         }
+        if number == 0 && self.early {
+            return 1;
+        }
         let rare = if form.cowd { 100 } else { 30 };
         if !self.chance.once_in(if form.packed { 8 } else { rare }) {
-            return self.chance.below(if form.cowd { 1 } else { 2 });
+            return self.chance.below(form.none());
         }
+        self.stored(form, number)
+    }
+
+    /// One grain, and its sector.
+    fn stored(&mut self, form: &Form, number: u64) -> u64 {
         if !form.packed {
             return self.area(form.grain);
         }
@@ -121,7 +140,7 @@ impl Made {
         let directories = [self.area(1), if form.redundant { self.area(1) } else { 0 }];
         for entry in 0..n {
             let none = self.chance.once_in(8);
-            let word = self.chance.below(if form.cowd { 1 } else { 2 });
+            let word = self.chance.below(form.none());
             let both: Vec<u64> = directories
                 .iter()
                 .take(1 + usize::from(form.redundant))
@@ -145,6 +164,10 @@ impl Made {
 
     fn kdmv(&mut self, form: &Form) {
         self.area(1);
+        if !form.zeroed && self.chance.once_in(2) {
+            self.stored(form, 0);
+            self.early = true;
+        }
         let described = self.chance.below(3);
         let descriptor = if described > 0 {
             self.area(described)
@@ -152,10 +175,10 @@ impl Made {
             0
         };
         let (directory, redundant) = self.tables(form);
-        let flags = 5 + if form.packed { 0x30000 } else { 0 };
+        let flags = 1 + 4 * u32::from(form.zeroed) + 0x30000 * u32::from(form.packed);
         let mut head = b"KDMV".to_vec();
         head.extend(3u32.to_le_bytes());
-        head.extend((flags as u32).to_le_bytes());
+        head.extend(flags.to_le_bytes());
         for number in [form.capacity, form.grain, descriptor, described] {
             head.extend(number.to_le_bytes());
         }
