@@ -1,4 +1,4 @@
--- Entry 1 where it is a sector: it names sector 1, and nothing of such an image is served as zeros. Where it means zeros: zeros.
+-- Entry 1 where it is a sector: it names sector 1, and nothing of such an image is served as zeros. Elsewhere it means zeros.
 use Prim.Native.Nat.{ℕ, _/_, _%_, _<_}
 use mathlib.Core.Path.{_≡_, refl, sym, ap, _∙_}
 use mathlib.Core.List.{List}
