@@ -1,5 +1,5 @@
 -- What comparing copies asks on its way, each premise as the code gives it.
-use Prim.Native.Nat.{ℕ, _+_, _-_, _*_, _≤_, _<_, min}
+use Prim.Native.Nat.{ℕ, suc, _+_, _-_, _*_, _≤_, _<_, min}
 use mathlib.Core.Path.{_≡_, sym, _∙_}
 use mathlib.Core.List.{List}
 use mathlib.Core.Bool.{Bool, false}
@@ -36,6 +36,12 @@ module _ (n d : ℕ) (l : d < n) where
 
   pub used-below : (per grains : ℕ) → ((d : ℕ) → d < n → d * per < grains) → d * per < grains
   used-below per grains f = f d l
+
+-- ---- tables
+-- the last entry alone is left
+pub last-entry : {r : Bool} (p : ℕ → Bool) (k n : ℕ) → anyBelow p k ≡ false → k < n → n ≤ k + 1 → r ≡ p k → r ≡ anyBelow p n
+unfolding anyBelow
+last-entry p k n b l h e = let q : n ≡ suc k = omega arith in rw (q, b) e
 
 -- ---- two entries
 -- at an arm of a match

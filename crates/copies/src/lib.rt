@@ -1,6 +1,6 @@
 // Refusal 11: the redundant directory and its tables against the primary ones.
 ghost use mathlib.Core.Path.{_≡_};
-ghost use mathlib.Core.Bool.{not};
+ghost use mathlib.Core.Bool.{false, not};
 ghost use Prim.Native.Nat.{ℕ, _+_, _-_, _*_, _≤_, _<_, min};
 ghost use lib.Dec.{eqb};
 ghost use lib.ListN.{length};
@@ -8,6 +8,8 @@ ghost use Rattle.format.specs.Entries.{entryAt, meaningAt, anyBelow};
 ghost use Rattle.format.specs.Check.{tablesDiffer, copyDiffers, copiesDiffer};
 ghost use Rattle.format.specs.declared.Entry.the-variants.{Sector};
 ghost use Rattle.format.specs.Judged.{Placed};
+use blocks::block_differs;
+use blocks::pair_differs;
 use entries::entry_at;
 use entries::meaning_at;
 use format::Entry;
@@ -24,19 +26,47 @@ fn differ_at(image: &[u8], t: u64, u: u64, k: u64) -> bool
     !(entry_at(image, t, k) == entry_at(image, u, k))
 }
 
+// What is left of two tables that do not differ below entry k, of n: the last entry, where their number is odd.
+fn last_differs(image: &[u8], t: u64, u: u64, k: u64, n: u64) -> bool
+    requires { ⌜ (512 * t + 4 * n ≤ length (now image)) × (512 * u + 4 * n ≤ length (now image)) ⌝ }
+    requires { ⌜ (k ≤ n) × (n ≤ k + 1) × (tablesDiffer (now image) t u k ≡ false) ⌝ }
+    ensures { λ r. ⌜ r ≡ tablesDiffer (now (image .entry)) t u n ⌝ }
+{
+    if k < n {
+        return differ_at(image, t, u, k);
+    }
+    false
+}
+
+// The same where less than a block is left: two entries at a time, then the last one.
+fn rest_differs(image: &[u8], t: u64, u: u64, from: u64, n: u64) -> bool
+    requires { ⌜ (512 * t + 4 * n ≤ length (now image)) × (512 * u + 4 * n ≤ length (now image)) ⌝ }
+    requires { ⌜ (from ≤ n) × (tablesDiffer (now image) t u from ≡ false) ⌝ }
+    ensures { λ r. ⌜ r ≡ tablesDiffer (now (image .entry)) t u n ⌝ }
+{
+    let mut k = from;
+    while 2 <= n - k {
+        if pair_differs(image, t, u, k) {
+            return true;
+        }
+        k += 2;
+    }
+    last_differs(image, t, u, k, n)
+}
+
 // Whether the tables at sectors t and u differ in one of their first n entries: zeros are compared like all others.
 fn tables_differ(image: &[u8], t: u64, u: u64, n: u64) -> bool
     requires { ⌜ (512 * t + 4 * n ≤ length (now image)) × (512 * u + 4 * n ≤ length (now image)) ⌝ }
     ensures { λ r. ⌜ r ≡ tablesDiffer (now (image .entry)) t u n ⌝ }
 {
     let mut k: u64 = 0;
-    while k < n {
-        if differ_at(image, t, u, k) {
+    while 16 <= n - k {
+        if block_differs(image, t, u, k) {
             return true;
         }
-        k += 1;
+        k += 16;
     }
-    false
+    rest_differs(image, t, u, k, n)
 }
 
 // Two directory entries: absent and zero stand where they stand in the other, and tables are equal in the n entries in use.

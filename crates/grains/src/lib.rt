@@ -10,6 +10,8 @@ ghost use Rattle.format.specs.Entries.{grainSectors, markerBroken};
 ghost use Rattle.format.specs.Areas.{named, runsPast};
 ghost use Rattle.format.specs.Check.{lowestFrom, grainPast, markerBrokenAt, badMarker, lowestPast, lowestBadMarker};
 ghost use Rattle.format.specs.Judged.{Placed, Filed};
+use blocks::block_entries;
+use blocks::past_zeros;
 use format::Entry;
 use format::Header;
 use format::Lowest;
@@ -47,7 +49,8 @@ fn entry_broken(image: &[u8], markers: bool, packed: bool, size: u64, g: u64, en
     }
 }
 
-// The lowest grain that breaks the rule. A directory entry that names no table is passed over with all its grains.
+// The lowest grain that breaks the rule. A directory entry that names no table is passed over with all its grains, and so are
+// blocks of entries that are 0.
 fn lowest_broken(image: &[u8], h: Header, markers: bool) -> Lowest
     requires { ⌜ Placed (now image) h ⌝ }
     requires { ⌜ ((g : ℕ) → g < grainsOf h → (markers && grainPast (now image) h g) ≡ false) ⌝ }
@@ -69,12 +72,16 @@ fn lowest_broken(image: &[u8], h: Header, markers: bool) -> Lowest
                 let used = entries_in_use(per_table, all - first);
                 let mut k: u64 = 0;
                 while k < used {
-                    let entry = entries::meaning_at(image, h.one_is_zero, t, k);
-                    if entry_broken(image, markers, h.packed, h.grain_size, first + k, entry) {
-                        found = Lowest::Grain(first + k);
-                        break 'dir;
+                    k = past_zeros(image, t, k, used);
+                    let end = k + block_entries(k, used);
+                    while k < end {
+                        let entry = entries::meaning_at(image, h.one_is_zero, t, k);
+                        if entry_broken(image, markers, h.packed, h.grain_size, first + k, entry) {
+                            found = Lowest::Grain(first + k);
+                            break 'dir;
+                        }
+                        k += 1;
                     }
-                    k += 1;
                 }
             }
         }

@@ -1,7 +1,7 @@
 -- A loop that marks row after row: what is done so far is a run that met nothing.
 use Prim.Native.Nat.{ℕ, zero, suc, _+_, _-_, _≤_, _<_}
 use mathlib.Core.Path.{_≡_, refl, sym, _∙_}
-use mathlib.Core.List.{List, _++_, append-assoc, append-nil}
+use mathlib.Core.List.{List, [], _++_, append-assoc, append-nil}
 use mathlib.Core.Bool.{Bool, true, false}
 use native.Mathlib.Omega.{arith}
 use native.Mathlib.Nat.{add-zero, add-suc}
@@ -20,6 +20,12 @@ rows-split : (m n : ℕ) (p : ℕ → List Area) → rows (m + n) p ≡ rows m p
 unfolding rows
 rows-split m zero p = rw add-zero (sym (append-nil _))
 rows-split m (suc n) p = rw (add-suc, rows-split m n p, append-assoc)
+
+-- rows of which none has an area
+pub rows-none : (n : ℕ) (p : ℕ → List Area) → ((k : ℕ) → k < n → p k ≡ []) → rows n p ≡ []
+unfolding rows
+rows-none zero p h = refl
+rows-none (suc n) p h = rw (rows-none n p (λ k l. h k (omega arith)), h n (omega arith))
 
 module _ (lo : ℕ) (ws₀ : List ℕ) (p : ℕ → List Area) where
   pub marked-start : Marked lo ws₀ (rows 0 p) ws₀

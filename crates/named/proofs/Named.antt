@@ -1,5 +1,5 @@
 -- What entries name, each premise as the code gives it.
-use Prim.Native.Nat.{ℕ, zero, suc, _+_, _*_, _≤_, _<_, _^_}
+use Prim.Native.Nat.{ℕ, zero, suc, _+_, _-_, _*_, _≤_, _<_, _^_, min}
 use mathlib.Core.Path.{_≡_, refl, sym}
 use mathlib.Core.List.{List, [], _∷_}
 use mathlib.Core.Bool.{Bool, true, false}
@@ -8,17 +8,20 @@ use lib.Dec.{ltb}
 use lib.ListN.{length}
 use borrow.Author.Tests.{lt-ltb, le-ltb, ne-eqb}
 use Rattle.base.specs.Pick.{pick}
+use Rattle.base.specs.Rows.{rows}
 use Rattle.base.proofs.Rows.{rows-same}
 use Rattle.format.specs.Geometry.{fileSectors}
 use Rattle.format.specs.Entries.{entryAt, meaning, meaningAt, grainSectors}
 use Rattle.format.specs.Areas.{Area, area, named, tableAreas, runsPast}
 use Rattle.format.specs.declared.Entry.{Entry}
 use Rattle.format.specs.declared.Entry.the-variants.{Absent, Zero, Sector}
-use Rattle.format.proofs.Inside.{one-in, rows-in}
+use Rattle.format.proofs.Inside.{one-in, rows-in, in-rows}
 use Rattle.format.proofs.Entries.{some-sectors}
 use Rattle.window.specs.Run.{Run, done}
 use Rattle.named.specs.Named.{leastSector, entryArea, entryAreas, tableGrains}
 use Rattle.named.specs.Listed.{Listed}
+use Rattle.blocks.specs.Runs.{Passed}
+use Rattle.named.proofs.Marked.{Marked, rows-none, marked-rows, met-rows}
 
 -- an entry names nothing below the lowest that is a sector, and else its sector
 pub by-least : (f : Entry → List Area) → f Absent ≡ [] → f Zero ≡ [] → (b : Bool) (e : ℕ)
@@ -58,6 +61,11 @@ module _ (s : List ℕ) (b : Bool) (least : ℕ) (q : least ≡ leastSector b) w
   pub listed-as : (packed : Bool) (size t n : ℕ) → Listed s (leastSector b) packed size t n → Listed s least packed size t n
   listed-as packed size t n l = rw q l
 
+no-area : (s : List ℕ) (least : ℕ) (packed : Bool) (size t k : ℕ) → entryAt s t k < least
+    → entryArea s least packed size t k ≡ []
+unfolding entryArea pick
+no-area s least packed size t k h = rw (lt-ltb (entryAt s t k) least h)
+
 -- ---- one entry
 module _ (s : List ℕ) (least : ℕ) (packed : Bool) (size t k e : ℕ) (eq : e ≡ entryAt s t k) where
   module _ (one : 1 ≤ size) (inside : runsPast (fileSectors s) (entryArea s least packed size t k) ≡ false) (h : least ≤ e)
@@ -87,6 +95,53 @@ module _ (s : List ℕ) (least : ℕ) (packed : Bool) (size t k e : ℕ) (eq : e
 pub entry-inside : (s : List ℕ) (least : ℕ) (packed : Bool) (size t n k : ℕ) → Listed s least packed size t n → k < n
     → runsPast (fileSectors s) (entryArea s least packed size t k) ≡ false
 entry-inside s least packed size t n k l h = rows-in (fileSectors s) n (entryArea s least packed size t) (l .inside) k h
+
+pub run-inside : (s : List ℕ) (least : ℕ) (packed : Bool) (size t from count i : ℕ)
+    → Listed s least packed size t (from + count) → i < count
+    → runsPast (fileSectors s) (entryArea s least packed size t (from + i)) ≡ false
+run-inside s least packed size t from count i l h = entry-inside s least packed size t (from + count) (from + i) l (omega arith)
+
+-- ---- entries that are 0 name nothing
+pub some-least : (b : Bool) (least : ℕ) → least ≡ leastSector b → 1 ≤ least
+unfolding leastSector pick
+some-least true least q = omega (arith, q)
+some-least false least q = omega (arith, q)
+
+pub zeros-marked : (lo : ℕ) (ws₀ ws s : List ℕ) (least : ℕ) (packed : Bool) (size t j n k : ℕ) → 1 ≤ least
+    → Marked lo ws₀ (rows j (entryArea s least packed size t)) ws → Passed s t j n k
+    → Marked lo ws₀ (rows k (entryArea s least packed size t)) ws
+zeros-marked lo ws₀ ws s least packed size t j n k one m p =
+    let q : k ≡ j + (k - j) = omega (arith, p .low) in
+    rw q (marked-rows lo ws₀ _ ws ws j (k - j) [] false m (rows-none (k - j) _ none) done refl)
+  where
+    none : (i : ℕ) → i < k - j → entryArea s least packed size t (j + i) ≡ []
+    none i l =
+        let z : entryAt s t (j + i) ≡ 0 = p .zeros (j + i) (omega arith) (omega arith) in
+        no-area s least packed size t (j + i) (omega (arith, z))
+
+-- the loop over blocks: a turn passes over zeros, then marks the entries after them
+module _ (lo : ℕ) (ws₀ ws xs s : List ℕ) (least : ℕ) (packed : Bool) (size t n k from count : ℕ) (r : Bool) (one : 1 ≤ least)
+    (m : Marked lo ws₀ (rows k (entryArea s least packed size t)) ws) (p : Passed s t k n from)
+    (g : Run lo ws (rows count (λ i. entryArea s least packed size t (from + i))) xs r) where
+  pub run-more : r ≡ false → Marked lo ws₀ (rows (from + count) (entryArea s least packed size t)) xs
+  run-more f =
+      marked-rows lo ws₀ _ ws xs from count _ r (zeros-marked lo ws₀ ws s least packed size t k n from one m p) refl g f
+
+  pub run-met : count ≡ min 16 (n - from) → r ≡ true → Run lo ws₀ (rows n (entryArea s least packed size t)) xs true
+  run-met e f =
+      met-rows lo ws₀ _ ws xs from count _ r (zeros-marked lo ws₀ ws s least packed size t k n from one m p) refl g n
+      (omega (arith, p .high)) f
+
+-- the entries of a block are among those that are listed
+pub listed-run : (s : List ℕ) (least : ℕ) (packed : Bool) (size t n from count : ℕ) → Listed s least packed size t n → from ≤ n
+    → count ≡ min 16 (n - from) → Listed s least packed size t (from + count)
+listed-run s least packed size t n from count l h e =
+    record {
+      some = l .some;
+      read = omega (arith, l .read);
+      inside = in-rows (fileSectors s) (from + count) (entryArea s least packed size t)
+          (λ k b. entry-inside s least packed size t n k l (omega arith));
+    }
 
 -- ---- the grains of a directory entry
 module _ (s : List ℕ) (least : ℕ) (packed : Bool) (size directory d n t : ℕ) (eq : t ≡ entryAt s directory d) where

@@ -10,6 +10,8 @@ ghost use Rattle.format.specs.Areas.{tableAreas, runsPast};
 ghost use Rattle.window.specs.Run.{Run, Counted};
 ghost use Rattle.named.specs.Named.{leastSector, entryArea, entryAreas, tableGrains, grainNamed};
 ghost use Rattle.named.specs.Listed.{Listed, Grained};
+use blocks::block_entries;
+use blocks::past_zeros;
 use entries::entry_at;
 use entries::grain_sectors;
 use sizes::entries_in_use;
@@ -49,7 +51,34 @@ fn mark_entry(
     mark_area(&mut *words, lo, e, sectors)
 }
 
-// Marks what the first n entries name.
+// Marks what the `count` entries from `from` on name.
+fn mark_run(
+    words: &mut [u64],
+    lo: u64,
+    image: &[u8],
+    least: u64,
+    packed: bool,
+    size: u64,
+    t: u64,
+    from: u64,
+    count: u64,
+) -> bool
+    requires { ⌜ Counted (now words) × Listed (now image) least packed size t (from + count) ⌝ }
+    ensures { λ r.
+        ⌜ Run lo (now (words .entry)) (rows count (λ i. entryArea (now (image .entry)) least packed size t (from + i)))
+        (now (words .exit)) r ⌝ }
+{
+    let mut i: u64 = 0;
+    while i < count {
+        if mark_entry(&mut *words, lo, image, least, packed, size, t, from + i) {
+            return true;
+        }
+        i += 1;
+    }
+    false
+}
+
+// Marks what the first n entries name, a block at a time: blocks of zeros name nothing.
 fn mark_entries(
     words: &mut [u64],
     lo: u64,
@@ -60,16 +89,18 @@ fn mark_entries(
     t: u64,
     n: u64,
 ) -> bool
-    requires { ⌜ Counted (now words) × Listed (now image) least packed size t n ⌝ }
+    requires { ⌜ Counted (now words) × (1 ≤ least) × Listed (now image) least packed size t n ⌝ }
     ensures { λ r.
         ⌜ Run lo (now (words .entry)) (entryAreas (now (image .entry)) least packed size t n) (now (words .exit)) r ⌝ }
 {
     let mut k: u64 = 0;
     while k < n {
-        if mark_entry(&mut *words, lo, image, least, packed, size, t, k) {
+        let from = past_zeros(image, t, k, n);
+        let count = block_entries(from, n);
+        if mark_run(&mut *words, lo, image, least, packed, size, t, from, count) {
             return true;
         }
-        k += 1;
+        k = from + count;
     }
     false
 }
@@ -105,7 +136,7 @@ fn mark_table_grains(
     d: u64,
     n: u64,
 ) -> bool
-    requires { ⌜ Counted (now words) × (512 * directory + 4 * d + 4 ≤ length (now image)) ⌝ }
+    requires { ⌜ Counted (now words) × (1 ≤ least) × (512 * directory + 4 * d + 4 ≤ length (now image)) ⌝ }
     requires { ⌜ (least ≤ entryAt (now image) directory d → Listed (now image) least packed size
         (entryAt (now image) directory d) n) ⌝ }
     ensures { λ r.

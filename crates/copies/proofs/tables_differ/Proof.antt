@@ -4,7 +4,8 @@ use mathlib.Core.Path.{_≡_}
 use mathlib.Core.Bool.{false}
 use borrow.Author.Needs.{needs}
 use Rattle.format.specs.Check.{tablesDiffer}
-use Rattle.format.proofs.AnyBelow.{some-start, some-here, some-next, some-end}
+use Rattle.format.proofs.AnyBelow.{some-start}
+use Rattle.blocks.proofs.RunLaws.{run-here, run-next}
 use Rattle.copies.proofs.tables_differ.Statement.{statement}
 use Rattle.copies.proofs.tables_differ.Tie as tie
 
@@ -21,9 +22,11 @@ tables-differ-spec =
     Inv-loop
     μ-loop
     (λ loop-holds. (search needs, some-start _))
-    (λ differ-at-requires κs. search needs)
-    (λ returns. search some-here)
+    (λ sub-loop. search needs)
+    (λ block-differs-requires κs. search needs)
+    (λ returns. search run-here)
     (λ add-k. search needs)
     (λ loop-less. search needs)
-    (λ loop-again. (search needs, search some-next))
-    (λ returns-2. search some-end))
+    (λ loop-again. (search needs, search run-next))
+    (λ rest-differs-requires κs. search needs)
+    (λ returns-2. search needs))

@@ -1,9 +1,10 @@
 -- `mark_entries`: the invariant says that the first k entries are marked.
 use Prim.Native.Nat.{_≤_, _-_}
+use native.Mathlib.Omega.{arith}
 use Rattle.base.specs.Rows.{rows}
 use Rattle.named.specs.Named.{entryArea}
-use Rattle.named.proofs.Named.{entry-inside}
-use Rattle.named.proofs.Marked.{Marked, marked-start, marked-more, marked-met, marked-all}
+use Rattle.named.proofs.Named.{listed-run, run-more, run-met}
+use Rattle.named.proofs.Marked.{Marked, marked-start, marked-all}
 use borrow.Author.Needs.{needs}
 use Rattle.named.proofs.mark_entries.Statement.{statement}
 use Rattle.named.proofs.mark_entries.Tie as tie
@@ -22,11 +23,13 @@ mark-entries-spec =
     Inv-loop
     μ-loop
     (λ loop-holds. (search needs, search marked-start))
-    (λ mark-entry-requires κs. ((search needs, search needs, search needs), search entry-inside))
+    (λ past-zeros-requires κs. search needs)
+    (λ c κs. c .past-zeros .ensures .high)
+    (λ mark-run-requires κs. (search needs, search listed-run))
     (λ same-length. search needs)
-    (λ returns. search marked-met)
-    (λ add-k. search needs)
-    (λ loop-less. search needs)
-    (λ loop-again. (search needs, search marked-more))
+    (λ returns. search run-met)
+    (λ c. omega (arith, c .before .before .before .before .before .before .past-zeros .ensures .high, c .before .before .before .before .before .block-entries .ensures))
+    (λ c. omega (arith, c .before .before .before .before .before .before .past-zeros .ensures .low, c .before .before .before .before .before .before .past-zeros .ensures .high, c .before .before .before .before .before .block-entries .ensures))
+    (λ c. (omega (arith, c .before .before .before .before .before .before .past-zeros .ensures .high, c .before .before .before .before .before .block-entries .ensures), search run-more))
     (λ same-length-2. search needs)
     (λ returns-2. search marked-all))

@@ -1,6 +1,7 @@
 -- `mark_grains`: the invariant says that the tables before d are marked.
 use Prim.Native.Nat.{_-_}
 use borrow.Author.Needs.{needs}
+use Rattle.named.proofs.Named.{some-least}
 use Rattle.named.proofs.NamedGrains.{Tables, tables-start, tables-entry, tables-table}
 use Rattle.named.proofs.NamedGrains.{tables-more, tables-met, tables-all}
 use Rattle.named.proofs.mark_grains.Statement.{statement}
@@ -23,7 +24,7 @@ mark-grains-spec =
     (λ loop-holds. search tables-start)
     (λ sub-entries-in-use. search needs)
     (λ entries-in-use-requires κs. search needs)
-    (λ mark-table-grains-requires κs. ((search needs, search tables-entry), search tables-table))
+    (λ mark-table-grains-requires κs. ((search needs, search some-least, search tables-entry), search tables-table))
     (λ same-length. search needs)
     (λ returns. search tables-met)
     (λ add-d. search needs)

@@ -10,6 +10,6 @@ mark-table-grains-spec =
     (tie.spec
     (λ entry-at-requires κs. search needs)
     (λ returns. search table-none)
-    (λ mark-entries-requires κs. (search needs, search table-listed))
+    (λ mark-entries-requires κs. (search needs, search needs, search table-listed))
     (λ same-length. search needs)
     (λ returns-2. search table-some))

@@ -1,5 +1,5 @@
 -- `mark_tables`: entries of a directory, whose tables take the same sectors each.
-use Rattle.named.proofs.Named.{listed-as, run-tables}
+use Rattle.named.proofs.Named.{some-least, listed-as, run-tables}
 use borrow.Author.Needs.{needs}
 use Rattle.named.proofs.mark_tables.Statement.{statement}
 use Rattle.named.proofs.mark_tables.Tie as tie
@@ -9,6 +9,6 @@ mark-tables-spec =
     tie.close
     (tie.spec
     (λ least-sector-requires κs. search needs)
-    (λ mark-entries-requires κs. (search needs, search listed-as))
+    (λ mark-entries-requires κs. (search needs, search some-least, search listed-as))
     (λ same-length. search needs)
     (λ returns. search run-tables))
