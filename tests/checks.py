@@ -207,6 +207,28 @@ accepted("copies-both-zero-flags-7", doubled(1, 1, version=3, flags=7))
 # zeros, and a table of zeros
 refused("copies-zero-and-zeros", doubled(1, 3, (3, entries(1, 1)), at=1, **ZEROED), 11)
 
+
+# ---- entries are compared two and sixteen at a time, and blocks of zeros passed over (A3): both sides of each edge
+def unlike_at(entry, used):
+    """Two tables of entries that are 0, but for one entry of the redundant one. So many are in use."""
+    return image(11, (0, kdmv(8 * used, redundant=6)), (1, entries(2)), (6, entries(7)), (7, entries(*[0] * entry, 9)))
+
+
+for used in (1, 2, 3, 15, 16, 17, 18, 33, 512):
+    refused(f"copies-last-of-{used}", unlike_at(used - 1, used), 11)
+for used in (1, 2, 3, 15, 16, 17, 18, 33, 511):
+    accepted(f"copies-past-{used}", unlike_at(used, used), 8 * used)
+refused("copies-last-of-515", image(20, (0, kdmv(8 * 515, redundant=10)), (1, entries(2, 6)), (10, entries(11, 15)),
+                                    (15, entries(0, 0, 9))), 11)
+accepted("copies-past-515", image(20, (0, kdmv(8 * 515, redundant=10)), (1, entries(2, 6)), (10, entries(11, 15)),
+                                  (15, entries(0, 0, 0, 9))), 8 * 515)
+for grain in (0, 1, 15, 16, 17, 31, 32, 511):
+    refused(f"grain-{grain}-past", image(6, (0, kdmv(4096)), (1, entries(2)), (2, entries(*[0] * grain, 6))), 9, grain)
+for grain in (15, 16, 17, 32):
+    tables = entries(*[0] * grain, 6, *[0] * (510 - grain), 6)
+    refused(f"grains-{grain}-and-511-on-one", image(14, (0, kdmv(4096)), (1, entries(2)), (2, tables)), 12)
+    accepted(f"grain-{grain}-alone", image(14, (0, kdmv(4096)), (1, entries(2)), (2, entries(*[0] * grain, 6))), 4096)
+
 # ---- lengths
 accepted("last-sector-cut", small(8, 0) + bytes(511))
 accepted("past-last-sector", small(8, 0) + b"\xff" * 511)
