@@ -14,10 +14,12 @@ const DESCRIPTOR_SECTORS: u64 = 20;
 const CID: &str = "12345678";
 
 pub struct Image {
-    /// Header, descriptor and directory.
+    /// Header, descriptor and directory, or both directories.
     front: Vec<u8>,
     /// The entries of all tables, which stand back to back.
     entries: Vec<u32>,
+    /// The tables stand there once more, right after: those of the redundant directory.
+    copied: bool,
     stored: u64,
     first_grain: u64,
 }
@@ -29,13 +31,30 @@ impl Image {
         capacity: u64,
         name: &str,
         parent: Option<&str>,
+        holds: impl FnMut(u64) -> bool,
+    ) -> Image {
+        Image::build(capacity, name, parent, false, holds)
+    }
+
+    /// The same with a redundant directory.
+    pub fn copied(capacity: u64, name: &str, holds: impl FnMut(u64) -> bool) -> Image {
+        Image::build(capacity, name, None, true, holds)
+    }
+
+    fn build(
+        capacity: u64,
+        name: &str,
+        parent: Option<&str>,
+        copied: bool,
         mut holds: impl FnMut(u64) -> bool,
     ) -> Image {
+        let times = 1 + u64::from(copied);
         let grains = up(capacity, GRAIN);
         let tables = up(grains, TABLE);
         let directory = 1 + DESCRIPTOR_SECTORS;
-        let first_table = directory + up(tables * 4, SECTOR);
-        let first_grain = up(first_table + tables * 4, GRAIN) * GRAIN;
+        let directory_sectors = up(tables * 4, SECTOR);
+        let first_table = directory + times * directory_sectors;
+        let first_grain = up(first_table + times * tables * 4, GRAIN) * GRAIN;
 
         let mut front = vec![0; (first_table * SECTOR) as usize];
         front[..4].copy_from_slice(b"KDMV");
@@ -51,9 +70,14 @@ impl Image {
         front[73..77].copy_from_slice(b"\n \r\n");
         let text = descriptor(capacity, name, parent);
         front[512..512 + text.len()].copy_from_slice(text.as_bytes());
-        for table in 0..tables {
-            let at = directory * SECTOR + table * 4;
+        for table in 0..times * tables {
+            let (copy, entry) = (table / tables, table % tables);
+            let at = (directory + copy * directory_sectors) * SECTOR + entry * 4;
             put(&mut front, at, 4, first_table + table * 4);
+        }
+        if copied {
+            put(&mut front, 8, 4, 3);
+            put(&mut front, 48, 8, directory + directory_sectors);
         }
 
         let mut entries = vec![0; (tables * TABLE) as usize];
@@ -67,9 +91,25 @@ impl Image {
         Image {
             front,
             entries,
+            copied,
             stored,
             first_grain,
         }
+    }
+
+    /// The same file with nothing changed but its header, which names no redundant directory.
+    pub fn unnamed(mut self) -> Image {
+        put(&mut self.front, 8, 4, 1);
+        put(&mut self.front, 48, 8, 0);
+        self
+    }
+
+    /// Where the two copies of each table begin, in bytes.
+    pub fn copies(&self) -> impl Iterator<Item = (usize, usize)> {
+        let (first, length) = (self.front.len(), self.entries.len() * 4);
+        (0..length)
+            .step_by(TABLE as usize * 4)
+            .map(move |at| (first + at, first + length + at))
     }
 
     /// The same disk with nothing stored and no tables: its directory names none.
@@ -120,7 +160,8 @@ impl Image {
 
     fn tables(&self) -> Vec<u8> {
         let bytes = self.entries.iter().map(|entry| entry.to_le_bytes());
-        bytes.flatten().collect()
+        let once: Vec<u8> = bytes.flatten().collect();
+        once.repeat(1 + usize::from(self.copied))
     }
 }
 

@@ -8,6 +8,7 @@ mod bitmap;
 mod check;
 mod collapse;
 mod commands;
+mod copies;
 mod descriptor;
 mod folder;
 mod image;
@@ -30,8 +31,9 @@ use std::process::exit;
 
 /// Inputs depend on it alone.
 const SEED: u64 = 7;
-const CALLS: [&str; 6] = [
+const CALLS: [&str; 7] = [
     "check",
+    "copies",
     "survey",
     "lookup",
     "chain",
@@ -126,6 +128,9 @@ fn run(quick: bool, calls: &[String]) -> Result<Report, Box<dyn Error>> {
     if wanted("check") {
         check::measure(&setup, &inputs, &mut report)?;
     }
+    if wanted("copies") {
+        copies::measure(&setup, &mut report)?;
+    }
     if wanted("survey") {
         survey::measure(&setup, &inputs[2], &mut report)?;
     }
@@ -158,6 +163,7 @@ fn a_quick_run_has_rows_for_every_call() -> Outcome {
     let table = run(true, &CALLS.map(String::from))?.to_string();
     for call in [
         "check",
+        "check, two directories",
         "survey",
         "lookup",
         "chain lookup",
