@@ -65,8 +65,8 @@ module _ (a b c d : ℕ) (fa : a < 0x100000000) (fb : b < 0x100000000) (fc : c <
       first e = rw (e, ne-eqb (a + 0x100000000 * b) (c + 0x100000000 * d) (λ q. eqb-false a c e (omega arith)))
 
 -- as the code reads them: of two tables, and of one against 0
-module _ (s : List ℕ) (t k x : ℕ) (ex : x ≡ entryAt s t k + 0x100000000 * entryAt s t (k + 1)) (low : entryAt s t k < 0x100000000)
-    (high : entryAt s t (k + 1) < 0x100000000) where
+module _ (s : List ℕ) (t k x : ℕ) (ex : x ≡ entryAt s t k + 0x100000000 * entryAt s t (k + 1))
+    (low : entryAt s t k < 0x100000000) (high : entryAt s t (k + 1) < 0x100000000) where
   pub pair-compared : (u y : ℕ) → y ≡ entryAt s u k + 0x100000000 * entryAt s u (k + 1) → entryAt s u k < 0x100000000
       → entryAt s u (k + 1) < 0x100000000 → not (eqb x y) ≡ anyFrom (differsAt s t u) k 2
   pair-compared u y ey lowU highU =

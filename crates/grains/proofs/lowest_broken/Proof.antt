@@ -101,4 +101,5 @@ lowest-broken-spec =
     let i = w .before .loop2 .inv in
     walk-here (i .3) (i .2) (w .loop2-test .taken) _ (c .before .before .meaning-at2 .ensures)
     (c .before .entry-broken .ensures) (i .4) (search needs)
-    (w .before .before .before .before .before .before .before .before .before .before .before .before .before .grains-of .ensures .0)))
+    (w .before .before .before .before .before .before .before .before .before .before .before .before .before .grains-of
+    .ensures .0)))

@@ -28,8 +28,11 @@ mark-entries-spec =
     (λ mark-run-requires κs. (search needs, search listed-run))
     (λ same-length. search needs)
     (λ returns. search run-met)
-    (λ c. omega (arith, c .before .before .before .before .before .before .past-zeros .ensures .high, c .before .before .before .before .before .block-entries .ensures))
-    (λ c. omega (arith, c .before .before .before .before .before .before .past-zeros .ensures .low, c .before .before .before .before .before .before .past-zeros .ensures .high, c .before .before .before .before .before .block-entries .ensures))
-    (λ c. (omega (arith, c .before .before .before .before .before .before .past-zeros .ensures .high, c .before .before .before .before .before .block-entries .ensures), search run-more))
+    (λ c. let b = c .before .before .before .before .before in
+    omega (arith, b .before .past-zeros .ensures .high, b .block-entries .ensures))
+    (λ c. let b = c .before .before .before .before .before in let z = b .before .past-zeros .ensures in
+    omega (arith, z .low, z .high, b .block-entries .ensures))
+    (λ c. let b = c .before .before .before .before .before in
+    (omega (arith, b .before .past-zeros .ensures .high, b .block-entries .ensures), search run-more))
     (λ same-length-2. search needs)
     (λ returns-2. search marked-all))
