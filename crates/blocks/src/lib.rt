@@ -3,7 +3,7 @@ ghost use mathlib.Core.Path.{_≡_};
 ghost use Prim.Native.Nat.{_+_, _-_, _*_, _≤_, _<_, min};
 ghost use lib.ListN.{length};
 ghost use Rattle.format.specs.Entries.{entryAt};
-ghost use Rattle.blocks.specs.Runs.{anyFrom, differsAt, namedAt, Passed};
+ghost use Rattle.blocks.specs.Blocks.{anyFrom, differsAt, namedAt, Passed};
 use entries::entry_at;
 
 // Entries k and k + 1 of the table at sector t as one number: their eight bytes.

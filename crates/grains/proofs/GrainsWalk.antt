@@ -20,7 +20,7 @@ use Rattle.format.proofs.Entries.{entry-of}
 use Rattle.format.proofs.Geometry.{table-used}
 use Rattle.format.specs.Judged.{Placed}
 use Rattle.format.proofs.PlacesKept.{primary-room, table-room}
-use Rattle.blocks.specs.Runs.{Passed}
+use Rattle.blocks.specs.Blocks.{Passed}
 use Rattle.grains.proofs.GrainsLeft.{Left, left-range, left-more, left-here}
 use Rattle.grains.proofs.GrainsRule.{broken, ruleOf, absent-kept, zero-kept}
 

@@ -20,7 +20,7 @@ use Rattle.format.proofs.Entries.{some-sectors}
 use Rattle.window.specs.Run.{Run, done}
 use Rattle.named.specs.Named.{leastSector, entryArea, entryAreas, tableGrains}
 use Rattle.named.specs.Listed.{Listed}
-use Rattle.blocks.specs.Runs.{Passed}
+use Rattle.blocks.specs.Blocks.{Passed}
 use Rattle.named.proofs.Marked.{Marked, rows-none, marked-rows, met-rows}
 
 -- an entry names nothing below the lowest that is a sector, and else its sector

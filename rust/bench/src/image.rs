@@ -97,11 +97,10 @@ impl Image {
         }
     }
 
-    /// The same file with nothing changed but its header, which names no redundant directory.
-    pub fn unnamed(mut self) -> Image {
-        put(&mut self.front, 8, 4, 1);
-        put(&mut self.front, 48, 8, 0);
-        self
+    /// Writes a number over the entry of the last grain, in the primary tables or in their copies.
+    pub fn spoil(&self, file: &File, copies: bool, grains: u64, number: u32) -> io::Result<()> {
+        let first = self.front.len() + usize::from(copies) * self.entries.len() * 4;
+        file.write_all_at(&number.to_le_bytes(), first as u64 + 4 * (grains - 1))
     }
 
     /// Where the two copies of each table begin, in bytes.

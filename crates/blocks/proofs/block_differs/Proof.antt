@@ -1,4 +1,4 @@
-use Rattle.blocks.proofs.RunLaws.{run-eight}
+use Rattle.blocks.proofs.BlockLaws.{run-eight}
 use borrow.Author.Needs.{needs}
 use Rattle.blocks.proofs.block_differs.Statement.{statement}
 use Rattle.blocks.proofs.block_differs.Tie as tie

@@ -1,4 +1,4 @@
-use Rattle.blocks.proofs.RunLaws.{pair-compared}
+use Rattle.blocks.proofs.BlockLaws.{pair-compared}
 use borrow.Author.Needs.{needs}
 use Rattle.blocks.proofs.pair_differs.Statement.{statement}
 use Rattle.blocks.proofs.pair_differs.Tie as tie

@@ -1,4 +1,4 @@
-use Rattle.blocks.proofs.RunLaws.{pair-of-zeros}
+use Rattle.blocks.proofs.BlockLaws.{pair-of-zeros}
 use borrow.Author.Needs.{needs}
 use Rattle.blocks.proofs.pair_named.Statement.{statement}
 use Rattle.blocks.proofs.pair_named.Tie as tie

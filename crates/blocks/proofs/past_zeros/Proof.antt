@@ -1,7 +1,7 @@
 -- `past_zeros`: all entries from `from` up to k are 0.
 use Prim.Native.Nat.{_-_}
-use Rattle.blocks.specs.Runs.{Passed}
-use Rattle.blocks.proofs.RunLaws.{passed-start, passed-more}
+use Rattle.blocks.specs.Blocks.{Passed}
+use Rattle.blocks.proofs.BlockLaws.{passed-start, passed-more}
 use borrow.Author.Needs.{needs}
 use Rattle.blocks.proofs.past_zeros.Statement.{statement}
 use Rattle.blocks.proofs.past_zeros.Tie as tie

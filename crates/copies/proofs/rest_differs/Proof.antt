@@ -4,7 +4,7 @@ use mathlib.Core.Path.{_≡_}
 use mathlib.Core.Bool.{false}
 use borrow.Author.Needs.{needs}
 use Rattle.format.specs.Check.{tablesDiffer}
-use Rattle.blocks.proofs.RunLaws.{run-here, run-next}
+use Rattle.blocks.proofs.BlockLaws.{run-here, run-next}
 use Rattle.copies.proofs.rest_differs.Statement.{statement}
 use Rattle.copies.proofs.rest_differs.Tie as tie
 

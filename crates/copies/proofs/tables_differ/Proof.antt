@@ -5,7 +5,7 @@ use mathlib.Core.Bool.{false}
 use borrow.Author.Needs.{needs}
 use Rattle.format.specs.Check.{tablesDiffer}
 use Rattle.format.proofs.AnyBelow.{some-start}
-use Rattle.blocks.proofs.RunLaws.{run-here, run-next}
+use Rattle.blocks.proofs.BlockLaws.{run-here, run-next}
 use Rattle.copies.proofs.tables_differ.Statement.{statement}
 use Rattle.copies.proofs.tables_differ.Tie as tie
 

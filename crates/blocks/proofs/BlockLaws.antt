@@ -11,7 +11,7 @@ use borrow.Author.Tests.{eqb-true, eqb-false, eq-eqb, ne-eqb}
 use Rattle.base.proofs.Steps.{not-no, true-or-false, lt-or-ge}
 use Rattle.format.specs.Entries.{entryAt, anyBelow}
 use Rattle.format.proofs.Entries.{some-no}
-use Rattle.blocks.specs.Runs.{anyFrom, differsAt, namedAt, Passed}
+use Rattle.blocks.specs.Blocks.{anyFrom, differsAt, namedAt, Passed}
 
 -- ---- a rule over runs of numbers
 module _ (p : ℕ → Bool) where
