@@ -33,11 +33,11 @@ unfolding answered pick
 taken-of p true e = record { room = refl; told = e }
 taken-of p false e = absurd (omega arith)
 
-record Told (st : State) : Type 0 where
+pub record Told (st : State) : Type 0 where
   pub none : st .number ≡ 0
   pub same : handed st ≡ record { records = st .records; count = st .extents; answer = accepted st }
 
-told-of : (st : State) → handed st .answer .number ≡ 0 → Told st
+pub told-of : (st : State) → handed st .answer .number ≡ 0 → Told st
 unfolding handed pick
 told-of st e =
     ⊎-elim (λ t. record { none = eqb-true _ _ t; same = rw t })

@@ -43,6 +43,7 @@ pub mod UsedChain
 pub mod UsedCollapse
 pub mod NeverUsed
 pub mod NeverUsedCollapse
+pub mod SplitServed
 pub mod FrameDecides
 pub mod SurveyCounts
 pub mod SurveyRows
@@ -58,3 +59,4 @@ pub mod ExamplesSurvey
 pub mod ExamplesHeader
 pub mod ExamplesLookup
 pub mod ExamplesEntryOne
+pub mod ExamplesSplit

@@ -4,7 +4,7 @@ ghost use lib.Dec.{eqb};
 ghost use Rattle.format.specs.Chain.{lengthsSum, lengthsBroken};
 
 // Whether the lengths add up to n: what is left of n cannot wrap, as their sum could.
-fn sum_is(lengths: &[u64], n: u64) -> bool
+pub fn sum_is(lengths: &[u64], n: u64) -> bool
     ensures { λ r. ⌜ r ≡ eqb (lengthsSum (now (lengths .entry))) n ⌝ }
 {
     let mut left = n;

@@ -37,19 +37,19 @@ pick-no true a b h = absurd h
 pick-no false a b h = refl
 
 module _ (ys : List Extent) (i s : ℕ) where
-  here : i < length ys → foundFrom (drop i ys) i s
+  pub found-here : i < length ys → foundFrom (drop i ys) i s
       ≡ pick (holding (getD ys i noExtent) s) (foundAt i) (foundFrom (drop (i + 1) ys) (i + 1) s)
   unfolding foundFrom
-  here l = simp (drop-cons ys i noExtent l, add-one)
+  found-here l = simp (drop-cons ys i noExtent l, add-one)
 
   -- it holds the sector
   pub found-hit : i < length ys → T (holding (getD ys i noExtent) s) → foundFrom (drop i ys) i s ≡ foundAt i
-  found-hit l h = here l ∙ pick-yes _ _ _ h
+  found-hit l h = found-here l ∙ pick-yes _ _ _ h
 
   -- it does not: the search goes on
   pub found-pass : i < length ys → T (not (holding (getD ys i noExtent) s)) → foundFrom (drop i ys) i s
       ≡ foundFrom (drop (i + 1) ys) (i + 1) s
-  found-pass l h = here l ∙ pick-no _ _ _ h
+  found-pass l h = found-here l ∙ pick-no _ _ _ h
 
   -- there is no record i
   pub found-end : length ys ≤ i → foundFrom (drop i ys) i s ≡ notFound

@@ -10,7 +10,7 @@ use descriptor::Extent;
 use descriptor::Found;
 
 // One of the records that a text comes to.
-fn record_at(records: [Extent; 32], i: usize) -> Extent
+pub fn record_at(records: [Extent; 32], i: usize) -> Extent
     requires { ⌜ i < 32 ⌝ }
     ensures { λ r. ⌜ r ≡ getD records i noExtent ⌝ }
 {
@@ -48,7 +48,7 @@ pub fn describe(text: &[u8], list: &mut [Extent]) -> Described
 }
 
 // Whether a record's sectors hold a sector: no sum is made, so none can wrap.
-fn holds(e: Extent, sector: u64) -> bool
+pub fn holds(e: Extent, sector: u64) -> bool
     ensures { λ r. ⌜ r ≡ holding e sector ⌝ }
 {
     if e.first <= sector {

@@ -53,6 +53,7 @@ pub const PACKED: u64 = 3;
 #[derive(Clone, Copy, Debug, Default, PartialEq, Eq)]
 pub struct Located {
     pub number: u64,
+    /// A chain's layer, or a split disk's extent.
     pub layer: u64,
     pub place: u64,
     pub kind: u64,

@@ -8,7 +8,7 @@ const MOST_LAYERS: usize = 16;
 
 /// The public call: `layers` end to end, base first, and their lengths.
 pub fn chain(layers: &[u8], lengths: &[u64], sector: u64) -> Located {
-    let parts = match split(layers, lengths, MOST_LAYERS) {
+    let parts = match parts(layers, lengths, MOST_LAYERS) {
         Some(parts) => parts,
         None => return located(Err(refusal(24)), 0),
     };
@@ -40,7 +40,7 @@ pub fn chain(layers: &[u8], lengths: &[u64], sector: u64) -> Located {
 
 /// The parts, at most `most`, end to end; nothing where their count or lengths break rule 24. The sum is exact, so it can't
 /// wrap to the right one.
-pub fn split<'a>(bytes: &'a [u8], lengths: &[u64], most: usize) -> Option<Vec<&'a [u8]>> {
+pub fn parts<'a>(bytes: &'a [u8], lengths: &[u64], most: usize) -> Option<Vec<&'a [u8]>> {
     if lengths.is_empty() || lengths.len() > most {
         return None;
     }

@@ -35,7 +35,8 @@ struct Keys {
     create_type: Option<(u64, u64)>,
 }
 
-fn judge(text: &[u8], room: usize) -> Result<(Described, Vec<Extent>), Refusal> {
+/// What the text says and its extents, or its refusal.
+pub fn judge(text: &[u8], room: usize) -> Result<(Described, Vec<Extent>), Refusal> {
     if text.len() > MOST_TEXT {
         return Err(refusal(36));
     }

@@ -13,6 +13,7 @@ mod image;
 mod line;
 mod lookup;
 mod numbers;
+mod split;
 mod survey;
 mod write;
 
@@ -26,5 +27,6 @@ pub use describe::{descriptor, find, MOST_EXTENTS, MOST_TEXT};
 pub use frame::frame;
 pub use header::header;
 pub use lookup::{lookup, read};
+pub use split::split;
 pub use survey::survey;
 pub use write::{collapse, normal, over};

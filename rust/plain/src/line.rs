@@ -115,11 +115,15 @@ pub fn access(line: Piece) -> Option<u64> {
     Some(index as u64 + 1)
 }
 
-const FLAT: u64 = 1;
-const VMFS: u64 = 2;
-const SPARSE: u64 = 3;
-const VMFSSPARSE: u64 = 4;
-const ZERO: u64 = 5;
+/// `Extent::access` of an extent that is not served.
+pub const NOACCESS: u64 = 3;
+
+/// `Extent::kind`, by the words of document 01.
+pub const FLAT: u64 = 1;
+pub const VMFS: u64 = 2;
+pub const SPARSE: u64 = 3;
+pub const VMFSSPARSE: u64 = 4;
+pub const ZERO: u64 = 5;
 
 fn kind(word: Piece) -> Option<u64> {
     let names = [

@@ -56,7 +56,7 @@ pub fn source(bytes: &[u8], sector: u64) -> Result<Source, Refusal> {
     }
 }
 
-/// An answer in numbers; `layer` is 0 outside chains.
+/// An answer in numbers; `layer` is 0 outside chains and split disks, where it is the extent.
 pub fn located(answer: Result<Source, Refusal>, layer: u64) -> Located {
     let mut located = Located {
         layer,

@@ -1,7 +1,7 @@
 //! Request A1: how full images are, row by row, and a tally of refusals. Refusals 24, then 21.
 
 use crate::answers::{refusal, Refusal, Surveyed};
-use crate::chain::split;
+use crate::chain::parts;
 use crate::check::accept;
 use crate::image::{Entry, Image};
 
@@ -51,7 +51,7 @@ fn survey_rows(
     rows: usize,
     tally: usize,
 ) -> Result<Vec<Row>, Refusal> {
-    let images = split(images, lengths, MOST_IMAGES).ok_or_else(|| refusal(24))?;
+    let images = parts(images, lengths, MOST_IMAGES).ok_or_else(|| refusal(24))?;
     if rows < ROW_WORDS * images.len() || tally < TALLY_WORDS {
         return Err(refusal(21));
     }
