@@ -20,14 +20,15 @@ use Rattle.descriptor.specs.Records.{accepted as acceptedText, handed, foundFro
 use Rattle.descriptor.specs.declared.Extent.{Extent}
 use Rattle.format.specs.Geometry.{grains, directoryEntries, directorySectors}
 use Rattle.format.specs.Kdmv.{kdmvFields, kdmvFault}
-use Rattle.format.specs.Header.{kdmvHeader, directoryOf, unlessFault, withFooter, judgeKdmv, judgeCowd, judge}
+use Rattle.format.specs.Cowd.{cowdFields, cowdFault}
+use Rattle.format.specs.Header.{kdmvHeader, cowdHeader, directoryOf, unlessFault, withFooter, judgeKdmv, judgeCowd, judge}
 use Rattle.format.specs.Entries.{meaning, inTable, entryOfGrain, grainSectors}
 use Rattle.format.specs.Areas.{ifThere, named, redundantTables, areas, runsPast, shares, sharesAny, meet}
 use Rattle.format.specs.Check.{misplaced, lowestFrom, copiesDiffer, unlessGrain, checkApart, checkCopies, checkGrains}
 use Rattle.format.specs.Check.{checkLayout, checkFrom}
 use Rattle.format.specs.Source.{grainSource, lookupGrain, lookupEntry, lookupTable, lookupIn, lookupFrom}
 use Rattle.format.specs.Chain.{lengthsSum}
-use Rattle.format.specs.declared.Source.the-variants.{Zero, Stored}
+use Rattle.format.specs.declared.Source.the-variants.{Absent, Zero, Stored}
 use Rattle.format.specs.declared.Refusal.the-variants.{TooShort, Magic, GrainPast}
 use Rattle.disk.specs.Split.{sourceIn, inZero, inPlain, lookedUp, inAccepted, inImage, byType, inExtent, atExtent, splitFrom}
 use Rattle.disk.specs.Split.{split, splitNumbers}
@@ -35,6 +36,7 @@ use Rattle.disk.specs.declared.SplitAnswer.{SplitAnswer}
 use Rattle.disk.specs.declared.SplitAnswer.the-variants.{Unread, Lengths, SectorPast, NoAccess, OtherFile, Image}
 use Rattle.disk.specs.declared.SplitAnswer.the-variants.{CapacityDiffers}
 use Rattle.laws.specs.Images.{small}
+use Rattle.laws.proofs.AcceptedSmall.{cowdSmall}
 
 -- ---- four extents of five sectors: two of a file of three, zeros, NOACCESS, one of a file of one
 abbrev text : List ℕ
@@ -57,6 +59,8 @@ pub disk-served :
     × (asked (1536 ∷ 0 ∷ 512 ∷ []) 0 ≡ Lengths)
     × (asked (1536 ∷ 0 ∷ 0 ∷ 512 ∷ 0 ∷ []) 0 ≡ Lengths)
     × (asked (1535 ∷ 0 ∷ 0 ∷ 512 ∷ []) 5 ≡ Lengths)
+    -- a sum of 2^64 more than the files have
+    × (asked (1536 ∷ 0xffffffffffffffff ∷ 1 ∷ 512 ∷ []) 0 ≡ Lengths)
     -- 45: the file ends inside the line; a byte of ZERO; another extent's file is not judged, and 39 comes first
     × (asked (1535 ∷ 1 ∷ 0 ∷ 512 ∷ []) 0 ≡ OtherFile 0)
     × (asked (1535 ∷ 1 ∷ 0 ∷ 512 ∷ []) 2 ≡ OtherFile 1)
@@ -66,7 +70,7 @@ pub disk-served :
     × (split [] [] (0 ∷ []) 0 ≡ Unread 30 0)
     × (split (text ++ ascii "\nRW 0 ZERO") (zeros 2048) [] 9 ≡ Unread 34 10)
 unfolding pick sameWord countBefore kept digitValue numeralFrom numeral toQuoteAt quotedLength linesFrom accessOf typeOf blanksThenDecimalAt blanksThenDecimal offsetOf extent withName fromName withType withSectors keyOf versionIs cidIs createTypeIs valueOf withKey splitAt lineWith refused skipped opened added noted once judgedLine step judgedEnd ended judged judgedText readText acceptedText handed foundFrom lengthsSum zeros inZero inPlain byType inExtent atExtent splitFrom
-disk-served = (refl, refl, refl, refl, refl, refl, refl, refl, refl, refl, refl, refl, refl, refl, refl)
+disk-served = (refl, refl, refl, refl, refl, refl, refl, refl, refl, refl, refl, refl, refl, refl, refl, refl)
 
 -- ---- one extent: access, type, sectors, offset
 abbrev line : ℕ → ℕ → ℕ → ℕ → Extent
@@ -92,13 +96,15 @@ pub images-served :
     × (inExtent (ascii "COWD") (line 1 4 16 0) 7 3 ≡ Image 7 TooShort)
     × (inExtent (ascii "COW") (line 1 3 16 0) 7 3 ≡ Image 7 TooShort)
     × (inExtent (ascii "KDMW") (line 1 3 16 0) 7 3 ≡ Image 7 Magic)
+    -- VMFSSPARSE: capacity 1, the one grain absent
+    × (inExtent cowdSmall (line 1 4 1 0) 7 0 ≡ sourceIn 7 Absent)
     -- NOACCESS is 39, whatever the file
     × (inExtent (ascii "COWD") (line 3 3 16 0) 7 3 ≡ NoAccess 7)
     -- plain sectors to the end of the file, and one more
     × (inExtent (zeros 1535) (line 2 2 1 1) 7 0 ≡ sourceIn 7 (Stored 1))
     × (inExtent (zeros 1535) (line 2 2 2 1) 7 0 ≡ OtherFile 7)
-unfolding pick powerUpTo leAt leBytes sameAt over zeros rows grains directoryEntries directorySectors kdmvFields kdmvFault kdmvHeader directoryOf unlessFault withFooter judgeKdmv judgeCowd judge meaning inTable entryOfGrain grainSectors ifThere named redundantTables areas runsPast shares sharesAny meet misplaced lowestFrom copiesDiffer unlessGrain checkApart checkCopies checkGrains checkLayout checkFrom grainSource lookupGrain lookupEntry lookupTable lookupIn lookupFrom inPlain lookedUp inAccepted inImage byType inExtent
-images-served = (refl, refl, refl, refl, refl, refl, refl, refl, refl, refl, refl)
+unfolding pick powerUpTo leAt leBytes sameAt over zeros rows grains directoryEntries directorySectors kdmvFields kdmvFault cowdFields cowdFault kdmvHeader cowdHeader directoryOf unlessFault withFooter judgeKdmv judgeCowd judge meaning inTable entryOfGrain grainSectors ifThere named redundantTables areas runsPast shares sharesAny meet misplaced lowestFrom copiesDiffer unlessGrain checkApart checkCopies checkGrains checkLayout checkFrom grainSource lookupGrain lookupEntry lookupTable lookupIn lookupFrom inPlain lookedUp inAccepted inImage byType inExtent
+images-served = (refl, refl, refl, refl, refl, refl, refl, refl, refl, refl, refl, refl)
 
 -- ---- the answer in numbers: number, layer, place, kind, sector, size, offset
 abbrev numbers : SplitAnswer → List ℕ

@@ -3,7 +3,7 @@
 use Prim.Native.Nat.{ℕ, _+_, _-_, _≤_, _<_}
 use mathlib.Core.Path.{_≡_, refl, sym, ap, subst, _∙_}
 use mathlib.Core.List.{List, [], append-nil}
-use mathlib.Core.Bool.{Bool, true, false, _||_}
+use mathlib.Core.Bool.{true, false, _||_, true≢false}
 use mathlib.Core.Logic.{⊎-elim}
 use native.Mathlib.Omega.{arith}
 use native.Mathlib.Nat.{zero-add}
@@ -13,15 +13,18 @@ use borrow.Author.Tests.{eq-eqb, ne-eqb, eqb-true, eqb-false, le-ltb, ltb-false}
 use Rattle.base.specs.Pick.{pick}
 use Rattle.base.specs.Strings.{sameAt}
 use Rattle.base.proofs.Steps.{true-or-false}
+use Rattle.base.proofs.Strings.{bytes-same}
 use Rattle.descriptor.specs.Extents.{NOACCESS, FLAT, VMFS, SPARSE, VMFSSPARSE, ZERO}
 use Rattle.descriptor.specs.Descriptor.{noExtent, readText}
 use Rattle.descriptor.specs.Records.{parsed, foundAt, notFound, findAnswer}
 use Rattle.descriptor.specs.declared.Extent.{Extent}
 use Rattle.descriptor.specs.declared.State.{State}
-use Rattle.format.specs.Geometry.{fileSectors}
+use Rattle.format.specs.Geometry.{fileSectors, bytesAt}
 use Rattle.format.specs.Kdmv.{kdmvMagic}
 use Rattle.format.specs.Cowd.{cowdMagic}
 use Rattle.format.specs.Header.{headerOf}
+use Rattle.format.specs.Accepted.{Accepted}
+use Rattle.format.specs.Accepted.Accepted.{kdmv, cowd}
 use Rattle.format.specs.Check.{check}
 use Rattle.format.specs.Source.{sourceOf, sectorLookup}
 use Rattle.format.specs.Chain.{layerAt}
@@ -206,23 +209,39 @@ accepted-back s e i o (accepted c g) a k q =
     (λ f. let y = sym (pick-else _ _ _ f) ∙ q in let z : _≡_ {A = ℕ} 0 1 = cc in absurd (omega arith))
     (true-or-false (eqb c (e .sectors)))
 
+-- and it is of its own kind: an accepted image that does not begin with the other's magic begins with its own
+kdmv-image : (s : List ℕ) → Accepted s → sameAt s 0 cowdMagic ≡ false → bytesAt s 0 4 ≡ kdmvMagic
+kdmv-image s (kdmv r a) n = r .magic
+kdmv-image s (cowd r a) n = absurd (true≢false (sym (bytes-same s 0 cowdMagic (r .magic)) ∙ n))
+
+cowd-image : (s : List ℕ) → Accepted s → sameAt s 0 kdmvMagic ≡ false → bytesAt s 0 4 ≡ cowdMagic
+cowd-image s (kdmv r a) n = absurd (true≢false (sym (bytes-same s 0 kdmvMagic (r .magic)) ∙ n))
+cowd-image s (cowd r a) n = r .magic
+
 module _ (s : List ℕ) (e : Extent) (i o : ℕ) (a : LayerSource) (found : inExtent s e i o ≡ Found a) where
-  image-back : (other : List ℕ) → inImage other s e i o ≡ Found a → Serves s e o a
+  image-back : (other : List ℕ) → inImage other s e i o ≡ Found a → (sameAt s 0 other ≡ false) × (Serves s e o a)
   unfolding inImage
   image-back other q =
-      accepted-back s e i o (check s) a refl
-      (passed _ _ _ (Found a) (λ q. let z : _≡_ {A = ℕ} 0 1 = cc in omega arith) q .1)
+      let p = passed _ _ _ (Found a) (λ q. let z : _≡_ {A = ℕ} 0 1 = cc in omega arith) q in
+      (p .0, accepted-back s e i o (check s) a refl (p .1))
 
-  pub found-sparse : e .kind ≡ SPARSE → Serves s e o a
+  sound-image : Serves s e o a → Accepted s
+  sound-image k = accepted-sound s (e .sectors) (k .size) (k .accepted) .0
+
+  pub found-sparse : e .kind ≡ SPARSE → (bytesAt s 0 4 ≡ kdmvMagic) × (Serves s e o a)
   unfolding byType
   found-sparse k =
+      let p =
       image-back cowdMagic
       (sym (pick-else _ _ _ (ap (λ n. eqb n ZERO) k) ∙ pick-else _ _ _ (ap (λ n. eqb n FLAT || eqb n VMFS) k)
-      ∙ pick-then _ _ _ (ap (λ n. eqb n SPARSE) k)) ∙ to-type s e i o a found .1)
+      ∙ pick-then _ _ _ (ap (λ n. eqb n SPARSE) k)) ∙ to-type s e i o a found .1) in
+      (kdmv-image s (sound-image (p .1)) (p .0), p .1)
 
-  pub found-vmfssparse : e .kind ≡ VMFSSPARSE → Serves s e o a
+  pub found-vmfssparse : e .kind ≡ VMFSSPARSE → (bytesAt s 0 4 ≡ cowdMagic) × (Serves s e o a)
   unfolding byType
   found-vmfssparse k =
+      let p =
       image-back kdmvMagic
       (sym (pick-else _ _ _ (ap (λ n. eqb n ZERO) k) ∙ pick-else _ _ _ (ap (λ n. eqb n FLAT || eqb n VMFS) k)
-      ∙ pick-else _ _ _ (ap (λ n. eqb n SPARSE) k)) ∙ to-type s e i o a found .1)
+      ∙ pick-else _ _ _ (ap (λ n. eqb n SPARSE) k)) ∙ to-type s e i o a found .1) in
+      (cowd-image s (sound-image (p .1)) (p .0), p .1)
