@@ -24,7 +24,7 @@ pub fn pair_differs(image: &[u8], t: u64, u: u64, k: u64) -> bool
     !(pair_at(image, t, k) == pair_at(image, u, k))
 }
 
-// The same of sixteen: no branch between, so that the compiler compares whole vectors.
+// The same of sixteen: one answer for a block, so that the loop over blocks has one test.
 pub fn block_differs(image: &[u8], t: u64, u: u64, k: u64) -> bool
     requires { ⌜ (512 * t + 4 * k + 64 ≤ length (now image)) × (512 * u + 4 * k + 64 ≤ length (now image)) ⌝ }
     ensures { λ r. ⌜ r ≡ anyFrom (differsAt (now (image .entry)) t u) k 16 ⌝ }
