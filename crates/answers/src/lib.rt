@@ -60,7 +60,7 @@ fn answer(layer: u64, kind: u64, sector: u64, size: u64, offset: u64) -> Located
     }
 }
 
-fn served_of(layer: u64, source: Source) -> Located
+pub fn served_of(layer: u64, source: Source) -> Located
     ensures { λ r. ⌜ r ≡ served layer source ⌝ }
 {
     match source {
@@ -75,7 +75,7 @@ fn served_of(layer: u64, source: Source) -> Located
     }
 }
 
-fn unserved_of(layer: u64, refusal: Refusal) -> Located
+pub fn unserved_of(layer: u64, refusal: Refusal) -> Located
     ensures { λ r. ⌜ r ≡ unserved layer refusal ⌝ }
 {
     let told = numbers_of(refusal);

@@ -20,6 +20,7 @@ use Rattle.exports.proofs.anhkhovet_collapse as collapse
 use Rattle.exports.proofs.lists.anhkhovet_survey as survey
 use Rattle.exports.proofs.extents.anhkhovet_descriptor as descriptor
 use Rattle.exports.proofs.extents.anhkhovet_find as find
+use Rattle.exports.proofs.extents.anhkhovet_split as split
 
 -- what is ensured at exit says one answer and one last content, where all that a clause allows is these
 module _ {M : Type 1} (𝓤 : URA M) (H : Heap 𝓤) (A : Atoms 𝓤) (T : Ended) (κs : Lifetimes T) (a : Arguments T κs)
@@ -116,7 +117,7 @@ module _ (T : Ended) where
           ((r ≡ answer κs a) × (ws ≡ put κs a (content κs a) (other κs a)))
           (λ p. (p .0, all κs a ws ∙ (λ i. put κs a (p .1 .0 i) (p .1 .1 i)))))
 
--- ---- the eleven calls: each `_` is what the contract itself says
+-- ---- the twelve calls: each `_` is what the contract itself says
 pub check-determined : Determined check.ended (λ M. check.spec)
 check-determined = answered check.ended _ (λ κs a. (tt, tt)) (λ κs a ws. refl)
 
@@ -134,6 +135,9 @@ read-determined = answered read.ended _ (λ κs a. (tt, (tt, tt))) (λ κs a ws.
 
 pub find-determined : Determined find.ended (λ M. find.spec)
 find-determined = answered find.ended _ (λ κs a. (tt, (tt, tt))) (λ κs a ws. refl)
+
+pub split-determined : Determined split.ended (λ M. split.spec)
+split-determined = answered split.ended _ (λ κs a. (tt, (tt, (tt, (tt, tt))))) (λ κs a ws. refl)
 
 pub frame-determined : Determined frame.ended (λ M. frame.spec)
 frame-determined =

@@ -35,6 +35,7 @@ use Rattle.format.specs.declared.Framed.{Framed}
 use Rattle.format.specs.declared.Surveyed.{Surveyed}
 use Rattle.format.specs.Survey.{entryKind, countOf, rowFrom, addRow, totalsBelow, surveyedIfRoom, survey}
 use Rattle.laws.specs.Images.{kdmvSector, small}
+use Rattle.disk.specs.Split.{inZero, byType, inExtent, atExtent, splitFrom, split, splitNumbers}
 use Rattle.descriptor.specs.declared.Described.{Described}
 use Rattle.descriptor.specs.declared.Extent.{Extent}
 use Rattle.descriptor.specs.declared.Found.{Found}
@@ -113,15 +114,23 @@ collapse-varies r same =
     differ (λ s. written (collapse s s 4096)) (λ (v : Written). v .length) (small 0 0 0 0) 4096 (omega arith) refl refl r
     (λ s. same s s 4096)
 
--- ---- descriptors: no bytes are refused; a text with one extent is not, where the list has a record for it
+-- ---- descriptors: no bytes are refused; this text with one extent is not
+text : List ℕ
+text = ascii "# Disk DescriptorFile\nversion=1\nCID=1\nparentCID=1\ncreateType=\"\"\nRW 1 ZERO"
+
+-- where the list has a record for it
 pub descriptor-varies : (r : Described) → ((s : List ℕ) (list : List Extent) → r ≡ descriptorAnswer s list) → ⊥
-unfolding pick sameWord countBefore kept digitValue numeralFrom numeral toQuoteAt quotedLength linesFrom accessOf typeOf extent withType withSectors keyOf versionIs cidIs createTypeIs valueOf withKey splitAt lineWith refused skipped opened added noted once judgedLine step judgedEnd ended judged judgedText readText accepted handed answered
+unfolding text pick sameWord countBefore kept digitValue numeralFrom numeral toQuoteAt quotedLength linesFrom accessOf typeOf extent withType withSectors keyOf versionIs cidIs createTypeIs valueOf withKey splitAt lineWith refused skipped opened added noted once judgedLine step judgedEnd ended judged judgedText readText accepted handed answered
 descriptor-varies r same =
     differ (λ s. descriptorAnswer s (noExtent ∷ [])) (λ (v : Described). v .extents) text 1 (omega arith) refl refl r
     (λ s. same s (noExtent ∷ []))
-  where
-    text : List ℕ
-    text = ascii "# Disk DescriptorFile\nversion=1\nCID=1\nparentCID=1\ncreateType=\"\"\nRW 1 ZERO"
+
+-- its only sector is zeros, kind 1
+pub split-varies : (r : Located) → ((s files lengths : List ℕ) (x : ℕ) → r ≡ splitNumbers (split s files lengths x)) → ⊥
+unfolding text pick sameWord countBefore kept digitValue numeralFrom numeral toQuoteAt quotedLength linesFrom accessOf typeOf extent withType withSectors keyOf versionIs cidIs createTypeIs valueOf withKey splitAt lineWith refused skipped opened added noted once judgedLine step judgedEnd ended judged judgedText readText accepted handed foundFrom lengthsSum inZero byType inExtent atExtent splitFrom
+split-varies r same =
+    differ (λ s. splitNumbers (split s [] (0 ∷ []) 0)) (λ (v : Located). v .kind) text 1 (omega arith) refl refl r
+    (λ s. same s [] (0 ∷ []) 0)
 
 -- no record of an empty list holds a sector; of this one the record 1 does
 pub find-varies : (r : Found) → ((list : List Extent) (sector : ℕ) → r ≡ findAnswer list sector) → ⊥

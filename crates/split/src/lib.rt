@@ -13,6 +13,7 @@ use records::holds;
 use records::record_at;
 
 mod extent;
+pub mod numbers;
 
 // A text has at most 32 extents, as many as there are records.
 fn at_most_32(count: usize) -> usize

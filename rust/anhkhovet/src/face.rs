@@ -22,7 +22,8 @@ answer! {
     Head { number, place, capacity, grain_size, descriptor, descriptor_sectors }
 }
 answer! {
-    /// Where a sector comes from. Kind: 0 absent, 1 zero, 2 stored, 3 packed.
+    /// Where a sector comes from. Kind: 0 absent, 1 zero, 2 stored, 3 packed. The layer is a chain's, or the extent of a disk of
+    /// several files.
     Located { number, layer, place, kind, sector, size, offset }
 }
 answer! {
@@ -110,4 +111,13 @@ extern "C" {
         extents_length: usize,
     ) -> Described;
     pub fn anhkhovet_find(extents: *const Extent, length: usize, sector: u64) -> Found;
+    pub fn anhkhovet_split(
+        text: *const u8,
+        text_length: usize,
+        files: *const u8,
+        files_length: usize,
+        lengths: *const u64,
+        lengths_length: usize,
+        sector: u64,
+    ) -> Located;
 }

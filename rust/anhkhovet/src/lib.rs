@@ -9,15 +9,16 @@
 //! - [`lookup`] says where a sector comes from, [`chain`] the same for layers on top of each other, and [`read`] hands over
 //!   its bytes.
 //! - [`normal`] and [`collapse`] write an image into memory that is lent.
-//! - [`descriptor`] reads a descriptor text, and [`find`] says which extent holds a sector.
+//! - [`descriptor`] reads a descriptor text, and [`find`] says which extent holds a sector; [`split`] says where a sector of a disk of
+//!   several files comes from.
 //!
 //! Words: a *sector* is 512 bytes. An image stores its disk in *grains* of some sectors each; an *entry* of a *table* says where a
 //! grain is, and an entry of the *directory* where a table is.
 //!
 //! # Stack
 //!
-//! Four calls keep a mark for each of some eight million sectors on the stack: [`check`], and [`survey`], [`normal`] and
-//! [`collapse`], which check. A thread that makes one of them needs [`STACK`] bytes for it beside what it uses itself, or the process ends at the
+//! Five calls keep a mark for each of some eight million sectors on the stack: [`check`], and [`survey`], [`normal`],
+//! [`collapse`] and [`split`], which check. A thread that makes one of them needs [`STACK`] bytes for it beside what it uses itself, or the process ends at the
 //! guard below its stack, with nothing overwritten. A main thread has 8 MiB unless `ulimit -s` says less, and a thread of
 //! Rust's 2 MiB unless it is asked for less. Every other call does with less than 16 KiB, and none of them calls itself.
 //!
@@ -28,6 +29,7 @@
 #![warn(missing_docs)]
 
 mod areas;
+mod disks;
 mod face;
 mod images;
 pub mod raw;
@@ -38,6 +40,7 @@ mod texts;
 mod writing;
 
 pub use areas::{frame, Area, Group};
+pub use disks::{split, Placed, SplitRefusal};
 pub use images::{check, header, Disk, Header};
 pub use refusal::{ChainRefusal, Counted, Refusal};
 pub use sectors::{chain, lookup, read, read_part, Located, Source};

@@ -117,3 +117,22 @@ pub fn find(extents: &[Extent], sector: u64) -> Found {
     // SAFETY: see the top of the file.
     unsafe { face::anhkhovet_find(extents.as_ptr(), extents.len(), sector) }
 }
+
+/// Where virtual sector `sector` of a disk of several files comes from: its descriptor's text, the files of the extents end to end
+/// in the order of their lines, and a length for each extent, 0 for ZERO. The answer's `layer` is the extent.
+///
+/// It needs [`STACK`](crate::STACK) bytes of stack.
+pub fn split(text: &[u8], files: &[u8], lengths: &[u64], sector: u64) -> Located {
+    // SAFETY: see the top of the file.
+    unsafe {
+        face::anhkhovet_split(
+            text.as_ptr(),
+            text.len(),
+            files.as_ptr(),
+            files.len(),
+            lengths.as_ptr(),
+            lengths.len(),
+            sector,
+        )
+    }
+}

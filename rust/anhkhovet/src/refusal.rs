@@ -6,7 +6,7 @@ use std::fmt;
 /// A refusal by document 01's rules. Shown, it is its number, its place where that counts something, and a sentence.
 #[derive(Clone, Copy, Debug, PartialEq, Eq, Hash)]
 pub struct Refusal {
-    /// Document 01's number: 1 to 12 of an image, 20 to 24 of what is asked, 30 to 36 of a text.
+    /// Document 01's number: 1 to 12 of an image, 20 to 24 of what is asked, 30 to 36 of a text, 38, 39 and 45 of an extent.
     pub number: u64,
     /// The grain or the line at fault, as [`Refusal::counted`] says, else 0.
     pub place: u64,
@@ -72,7 +72,7 @@ impl Refusal {
             21 => "the output is too short for the result",
             22 => "the images do not have the same capacity and grain size",
             23 => "a COWD or compressed image can be neither collapsed nor brought to normal form",
-            24 => "a chain has 1 to 16 layers, a survey 1 to 1,024 images",
+            24 => "a chain has 1 to 16 layers, a survey 1 to 1,024 images, a disk of several files one for each extent",
             30 => "the first line is not \"# Disk DescriptorFile\"",
             31 => "there is text after a zero byte",
             32 => "the line is neither an extent nor of the form key = value",
@@ -83,6 +83,9 @@ impl Refusal {
             34 => "the extent line has a field missing, wrong or too many",
             35 => "there is no extent, or more than 32, or their sectors add up to over 2^31",
             36 => "the descriptor is longer than 65,536 bytes",
+            38 => "the image's capacity is not the number of sectors of its extent",
+            39 => "the extent is NOACCESS",
+            45 => "the file is not of its extent's type, or is too short for its sectors",
             _ => "a rule of the format is broken",
         }
     }

@@ -36,7 +36,7 @@ pub struct Located {
 }
 
 impl Source {
-    fn of(located: &raw::Located) -> Source {
+    pub(crate) fn of(located: &raw::Located) -> Source {
         let sector = located.sector;
         match located.kind {
             0 => Source::Absent,

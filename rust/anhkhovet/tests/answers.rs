@@ -94,7 +94,7 @@ fn chains() {
     assert_eq!(of_all.layer_at_fault(), None);
     assert_eq!(
         of_all.to_string(),
-        "refused 24: a chain has 1 to 16 layers, a survey 1 to 1,024 images"
+        "refused 24: a chain has 1 to 16 layers, a survey 1 to 1,024 images, a disk of several files one for each extent"
     );
 }
 
@@ -190,7 +190,7 @@ fn words_of_refusals() {
         line.to_string(),
         "refused 32 at line 3: the line is neither an extent nor of the form key = value"
     );
-    let numbers = (1..=12).chain(20..=24).chain(30..=36);
+    let numbers = (1..=12).chain(20..=24).chain(30..=36).chain([38, 39, 45]);
     let mut sentences: Vec<&str> = numbers
         .map(|number| refused(number, 1).sentence())
         .collect();

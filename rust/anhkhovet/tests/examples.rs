@@ -35,6 +35,7 @@ examples! {
     lookup "lookup.rs"
     normal "normal.rs"
     read "read.rs"
+    split "split.rs"
     stack "stack.rs"
     survey "survey.rs"
 }

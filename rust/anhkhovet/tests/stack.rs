@@ -1,7 +1,7 @@
 //! Each call on a thread with the stack that the documentation states, and images that all of them go through to the end.
 
 use anhkhovet::{
-    chain, check, collapse, descriptor, find, frame, header, lookup, normal, read, survey, STACK,
+    chain, check, collapse, descriptor, find, frame, header, lookup, normal, read, split, survey, STACK,
 };
 use std::{fs, thread};
 
@@ -28,6 +28,12 @@ fn calls_that_check() {
         assert!(said.rows.iter().all(Result::is_ok));
     });
     let (lower, upper) = (sample("tool-base"), sample("tool-middle"));
+    let text = "# Disk DescriptorFile\nversion=1\nCID=1\nparentCID=1\ncreateType=\"\"\nRW 2048 SPARSE \"a\"";
+    let file = lower.clone();
+    on(STACK, move || {
+        let lengths = [file.len() as u64];
+        assert!(split(text.as_bytes(), &file, &lengths, 2).is_ok());
+    });
     let mut out = vec![0; 1 << 20];
     on(STACK, move || {
         assert!(normal(&lower, &mut out).is_ok());
