@@ -72,7 +72,7 @@ disk("entry-1", ('RW 16 SPARSE "a"', small(1, 0, head=zeroed(), sectors=6)), ('R
      sectors={0: zero(0), 16: bad(9, 1, 1), 31: bad(9, 1, 1)})
 disk("only-zeros", ("RW 1 ZERO", NONE), sectors={0: zero(0), 1: bad(20)})
 # a file's own first sector is served, also where it begins as an image
-disk("image-as-plain-sectors", ('RW 16 FLAT "a"', HALF), ('RW 38 VMFS "b"', OLD),
+disk("image-as-plain-sectors", ('RW 16 FLAT "a" 0', HALF), ('RW 38 VMFS "b"', OLD),
      sectors={0: stored(0, 0), 15: stored(0, 15), 16: stored(1, 0), 53: stored(1, 37), 54: bad(20)})
 # sixteen extents
 disk("sixteen", *[("RW 1 ZERO", NONE)] * 15, ('RW 1 FLAT "a" 2', plain(3)),
@@ -85,9 +85,10 @@ for kind in ("FLAT", "VMFS"):
                              ("no-bytes", NONE, False)):
         answers = {0: stored(0, 2), 2: stored(0, 4)} if fits else {0: bad(45), 2: bad(45)}
         disk(f"{kind}-{name}", (f'RW 3 {kind} "a" 2', data), sectors={**answers, 3: bad(20)})
-    # the offset at its most and past it: counted exactly
-    for name, offset in (("2-31", 2**31), ("2-63", 2**63), ("2-64-less-1", 2**64 - 1), ("2-64-less-3", 2**64 - 3)):
-        disk(f"{kind}-offset-{name}", (f'RW 3 {kind} "a" {offset}', plain(5)), sectors={0: bad(45), 2: bad(45)})
+    # the offset at its most, and past it: the text's number
+    for name, offset, answer in (("2-31", 2**31, bad(45)), ("2-32-less-3", 2**32 - 3, bad(45)),
+                                 ("2-32-less-1", 2**32 - 1, bad(45)), ("2-32", 2**32, bad(34, 0, 6))):
+        disk(f"{kind}-offset-{name}", (f'RW 3 {kind} "a" {offset}', plain(5)), sectors={0: answer, 2: answer})
 
 # ---- ZERO: any byte at all is 45
 disk("zero-with-a-byte", ("RW 1 ZERO", b"\0"), ("RW 1 ZERO", NONE), sectors={0: bad(45), 1: zero(1)})
@@ -125,21 +126,21 @@ for name, sectors in (("less", 15), ("more", 17)):
 disk("cowd-capacity", ('RW 5 VMFSSPARSE "a"', OLD), ('RW 4 VMFSSPARSE "b"', OLD), sectors={0: bad(38), 5: stored(1, 37)})
 
 # ---- 39 comes before 45 and the image's numbers, whatever the type
-disk("noaccess", ("NOACCESS 1 ZERO", b"\0"), ('NOACCESS 4 SPARSE "a"', OLD), ('NOACCESS 4 FLAT "b"', NONE),
+disk("noaccess", ("NOACCESS 1 ZERO", b"\0"), ('NOACCESS 4 SPARSE "a"', OLD), ('NOACCESS 4 FLAT "b" 0', NONE),
      ('NOACCESS 4 VMFSSPARSE "c"', b"abcd"), ('NOACCESS 16 SPARSE "d"', HALF), ("RDONLY 1 ZERO", NONE),
      sectors={0: bad(39), 1: bad(39, 1), 5: bad(39, 2), 9: bad(39, 3), 13: bad(39, 4), 29: zero(5)})
 
 # ---- only the sector's own file is judged, and no byte of another one is taken
-disk("own-file-alone", ('RW 16 SPARSE "a"', b"abcd"), ('RW 1 FLAT "b"', plain(1)), ('RW 16 SPARSE "c"', small(8, 8)),
+disk("own-file-alone", ('RW 16 SPARSE "a"', b"abcd"), ('RW 1 FLAT "b" 0', plain(1)), ('RW 16 SPARSE "c"', small(8, 8)),
      sectors={0: bad(2), 16: stored(1, 0), 17: bad(12, 2), 32: bad(12, 2)})
 # a byte from the one file to the other
-disk("byte-to-the-next", ('RW 1 FLAT "a"', plain(1)), ('RW 1 FLAT "b"', plain(1)), lengths=[SECTOR + 1, SECTOR - 1],
+disk("byte-to-the-next", ('RW 1 FLAT "a" 0', plain(1)), ('RW 1 FLAT "b" 0', plain(1)), lengths=[SECTOR + 1, SECTOR - 1],
      sectors={0: stored(0, 0), 1: bad(45, 1)})
-disk("file-of-the-zero-extent", ("RW 1 ZERO", NONE), ('RW 1 FLAT "b"', plain(1)), lengths=[SECTOR, 0],
+disk("file-of-the-zero-extent", ("RW 1 ZERO", NONE), ('RW 1 FLAT "b" 0', plain(1)), lengths=[SECTOR, 0],
      sectors={0: bad(45), 1: bad(45, 1)})
 
 # ---- 24: as many lengths as extents, and their exact sum; before 20, and naming extent 0
-TWO = ("RW 1 ZERO", NONE), ('RW 1 FLAT "a"', plain(1))
+TWO = ("RW 1 ZERO", NONE), ('RW 1 FLAT "a" 0', plain(1))
 for name, lengths in (("none", []), ("one-too-few", [SECTOR]), ("one-too-many", [0, SECTOR, 0]), ("byte-less", [0, SECTOR - 1]),
                       ("byte-more", [0, SECTOR + 1]), ("wraps", [2**64 - 1, SECTOR + 1]), ("wraps-twice", [2**63, 2**63])):
     disk(f"lengths-{name}", *TWO, lengths=lengths, sectors={0: bad(24), 1: bad(24), 2: bad(24)})
