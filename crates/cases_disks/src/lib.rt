@@ -23,11 +23,6 @@ pub fn look(bytes: &[u8], lengths: &[u8], sector: u64)
     let numbers = programs::numbers_of(lengths);
     let all: &[u64] = &numbers;
     let end = end_of(bytes, all[0]);
-    let answer = split::split(
-        &bytes[0..end],
-        &bytes[end..bytes.len()],
-        &all[1..n],
-        sector,
-    );
+    let answer = split::split(&bytes[0..end], &bytes[end..bytes.len()], &all[1..n], sector);
     programs::put_located(b"split ", split::numbers::split_of(answer));
 }

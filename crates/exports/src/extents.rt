@@ -24,7 +24,12 @@ pub extern "C" fn anhkhovet_find(extents: &[Extent], sector: u64) -> Found
 }
 
 #[no_mangle]
-pub extern "C" fn anhkhovet_split(text: &[u8], files: &[u8], lengths: &[u64], sector: u64) -> Located
+pub extern "C" fn anhkhovet_split(
+    text: &[u8],
+    files: &[u8],
+    lengths: &[u64],
+    sector: u64,
+) -> Located
     ensures { λ r.
         ⌜ r ≡ splitNumbers (split (now (text .entry)) (now (files .entry)) (now (lengths .entry)) sector) ⌝ }
 {

@@ -44,6 +44,7 @@ pub mod UsedCollapse
 pub mod NeverUsed
 pub mod NeverUsedCollapse
 pub mod SplitServed
+pub mod SplitJudged
 pub mod FrameDecides
 pub mod SurveyCounts
 pub mod SurveyRows

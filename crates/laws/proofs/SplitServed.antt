@@ -138,7 +138,7 @@ module _ (s : List ℕ) (e : Extent) (i o : ℕ) (allowed : e .access ≡ NOACCE
         let a = accepted-sound s (e .sectors) size passed in
         served s (a .0) o (subst (λ (n : ℕ). o < n) (a .1) low)
 
-    image-answer : inAccepted s e i o (check s) ≡ sourceIn i (sourceOf s (headerOf s) o)
+    pub image-answer : inAccepted s e i o (check s) ≡ sourceIn i (sourceOf s (headerOf s) o)
     unfolding inAccepted lookedUp pick
     image-answer = rw (passed, eq-eqb (e .sectors) (e .sectors) refl, sound)
 
@@ -162,7 +162,7 @@ module _ (s : List ℕ) (e : Extent) (i o : ℕ) (allowed : e .access ≡ NOACCE
 
 -- ---- and back: what was found tells of the file
 module _ (s : List ℕ) (e : Extent) (i o : ℕ) (a : LayerSource) (found : inExtent s e i o ≡ Found a) where
-  to-type : (eqb (e .access) NOACCESS ≡ false) × (byType s e i o ≡ Found a)
+  pub to-type : (eqb (e .access) NOACCESS ≡ false) × (byType s e i o ≡ Found a)
   unfolding inExtent
   to-type = passed _ _ _ (Found a) (λ q. let z : _≡_ {A = ℕ} 0 1 = cc in omega arith) found
 
@@ -219,7 +219,7 @@ cowd-image s (kdmv r a) n = absurd (true≢false (sym (bytes-same s 0 kdmvMagic 
 cowd-image s (cowd r a) n = r .magic
 
 module _ (s : List ℕ) (e : Extent) (i o : ℕ) (a : LayerSource) (found : inExtent s e i o ≡ Found a) where
-  image-back : (other : List ℕ) → inImage other s e i o ≡ Found a → (sameAt s 0 other ≡ false) × (Serves s e o a)
+  pub image-back : (other : List ℕ) → inImage other s e i o ≡ Found a → (sameAt s 0 other ≡ false) × (Serves s e o a)
   unfolding inImage
   image-back other q =
       let p = passed _ _ _ (Found a) (λ q. let z : _≡_ {A = ℕ} 0 1 = cc in omega arith) q in
