@@ -75,6 +75,10 @@ fn every_refusal() {
         ),
         ("descriptor", [0, 21].into_iter().chain(30..=35).collect()),
         ("find", vec![0, 20]),
+        (
+            "split",
+            (0..=12).chain([20, 24, 38, 39, 45]).chain(30..=35).collect(),
+        ),
     ];
     for (call, numbers) in wanted {
         for number in numbers {

@@ -1,6 +1,6 @@
 //! The lines that the program prints for a case: a call and the numbers of its answer.
 
-use super::{Case, CHAIN, COLLAPSE, FIND, FRAME, IMAGE, SEARCHED, SURVEY, TEXT};
+use super::{Case, CHAIN, COLLAPSE, FIND, FRAME, IMAGE, SEARCHED, SPLIT, SURVEY, TEXT};
 use super::{MOST_ROWS, MOST_WORDS, SHORT, SHORT_TALLY, TALLY};
 use crate::input::Input;
 use crate::numbers::{described, digest, extent, found, handed_over, line, located};
@@ -33,6 +33,7 @@ impl Case {
                 let find = || line("find ", &found(plain::find(&records, sector)));
                 (!records.is_empty()).then(find).into_iter().collect()
             }
+            SPLIT => vec![self.split_line(sector)],
             _ => {
                 let lookup = line("lookup ", &located(plain::lookup(&self.bytes, sector)));
                 let part = plain::read(&self.bytes, sector);
@@ -104,6 +105,12 @@ impl Case {
             line(&line("survey ", &answer), &rows),
             line("tally ", &tally),
         ]
+    }
+
+    fn split_line(&self, sector: u64) -> String {
+        let (text, files) = self.bytes.split_at(self.lengths[0] as usize);
+        let answer = plain::split(text, files, &self.lengths[1..], sector);
+        line("split ", &located(answer))
     }
 
     fn text_lines(&self) -> Vec<String> {

@@ -143,7 +143,7 @@ fn kind(case: &Case, line: &str) -> String {
             let at_1 = if !cowd && words[5] == "1" { "at 1" } else { "" };
             format!("{call} {number} {} {cowd} {at_1}", words[4])
         }
-        "chain" => format!("{call} {number} {}", words[4]),
+        "chain" | "split" => format!("{call} {number} {}", words[4]),
         "normal" | "collapse" if number == "0" => {
             // By its length too, since the shortest results have no grain.
             let length: u64 = words[3].parse().unwrap_or(0);

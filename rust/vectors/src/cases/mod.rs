@@ -28,6 +28,8 @@ const FRAME: u64 = 6;
 /// The survey, with as many words for rows as the room says, `MOST_ROWS` at most, and `TALLY` words. A room of `SHORT` more is
 /// one with a tally that is a word too short.
 const SURVEY: u64 = 7;
+/// The lookup of each sector in a disk of several files: the first length is that of the text, which the files follow.
+const SPLIT: u64 = 8;
 
 const SEARCHED: usize = 32;
 const MOST_WORDS: usize = 96;

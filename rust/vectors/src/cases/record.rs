@@ -1,7 +1,7 @@
 //! The generators of `compare`, listened to: a side that keeps what it is asked and answers as the plain one does.
 
 use super::{
-    Case, CHAIN, COLLAPSE, FIND, FRAME, IMAGE, SEARCHED, SHORT, SHORT_TALLY, SURVEY, TEXT,
+    Case, CHAIN, COLLAPSE, FIND, FRAME, IMAGE, SEARCHED, SHORT, SHORT_TALLY, SPLIT, SURVEY, TEXT,
 };
 use crate::numbers::extent;
 use compare::side::{Plain, Side};
@@ -145,5 +145,15 @@ impl Side for Recorder {
             });
         }
         Plain.find(list, sector)
+    }
+    fn split(&self, text: &[u8], files: &[u8], lengths: &[u64], sector: u64) -> Located {
+        self.keep(Case {
+            asked: SPLIT,
+            sectors: vec![sector],
+            lengths: [&[text.len() as u64], lengths].concat(),
+            bytes: [text, files].concat(),
+            room: 0,
+        });
+        Plain.split(text, files, lengths, sector)
     }
 }
