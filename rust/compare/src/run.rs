@@ -166,7 +166,7 @@ impl<'a> Run<'a> {
         self.count_source(Call::Chain, answers[1], image, sector);
     }
 
-    fn count_located(&mut self, call: Call, number: u64, kind: u64) {
+    pub(crate) fn count_located(&mut self, call: Call, number: u64, kind: u64) {
         if number != 0 {
             self.tally.refused(call, number);
             return;

@@ -20,6 +20,7 @@ pub trait Side {
     fn collapse(&self, lower: &[u8], upper: &[u8], out: &mut [u8]) -> Written;
     fn descriptor(&self, text: &[u8], list: &mut [Extent]) -> Described;
     fn find(&self, list: &[Extent], sector: u64) -> Found;
+    fn split(&self, text: &[u8], files: &[u8], lengths: &[u64], sector: u64) -> Located;
 }
 
 /// The plain implementation.
@@ -66,6 +67,9 @@ impl Side for Plain {
     }
     fn find(&self, list: &[Extent], sector: u64) -> Found {
         plain::find(list, sector)
+    }
+    fn split(&self, text: &[u8], files: &[u8], lengths: &[u64], sector: u64) -> Located {
+        plain::split(text, files, lengths, sector)
     }
 }
 
@@ -130,6 +134,9 @@ mod proved {
         fn find(&self, list: &[Extent], sector: u64) -> Found {
             let records: Vec<Record> = list.iter().map(record).collect();
             same!(raw::find(&records, sector) => Found { number, place, extent })
+        }
+        fn split(&self, text: &[u8], files: &[u8], lengths: &[u64], sector: u64) -> Located {
+            same!(raw::split(text, files, lengths, sector) => Located { number, layer, place, kind, sector, size, offset })
         }
     }
 

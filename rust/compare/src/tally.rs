@@ -15,11 +15,12 @@ pub enum Call {
     Collapse,
     Descriptor,
     Find,
+    Split,
 }
 
 use Call::*;
 
-const CALLS: [(Call, &str); 11] = [
+const CALLS: [(Call, &str); 12] = [
     (Check, "check"),
     (Header, "header"),
     (Lookup, "lookup"),
@@ -31,6 +32,7 @@ const CALLS: [(Call, &str); 11] = [
     (Collapse, "collapse"),
     (Descriptor, "descriptor"),
     (Find, "find"),
+    (Split, "split"),
 ];
 
 impl Call {
@@ -41,7 +43,7 @@ impl Call {
 }
 
 /// Kinds of answers, with the calls that can give them.
-const ANSWERS: [(&str, &[Call]); 39] = [
+const ANSWERS: [(&str, &[Call]); 53] = [
     ("accepted KDMV", &[Check, Header, Frame, Survey]),
     ("accepted COWD", &[Check, Header, Frame, Survey]),
     ("accepted, footer", &[Check, Header, Frame, Survey]),
@@ -64,12 +66,12 @@ const ANSWERS: [(&str, &[Call]); 39] = [
     ("11, 1 and a table", &[Check]),
     ("12, 1 and 2", &[Check]),
     ("12, entry 1", &[Check]),
-    ("absent", &[Lookup, Chain, Survey]),
-    ("zero", &[Lookup, Chain, Survey]),
-    ("stored", &[Lookup, Chain, Read, Survey]),
-    ("packed", &[Lookup, Chain, Read, Survey]),
-    ("stored at 1", &[Lookup, Chain, Read]),
-    ("packed at 1", &[Lookup, Chain, Read]),
+    ("absent", &[Lookup, Chain, Survey, Split]),
+    ("zero", &[Lookup, Chain, Survey, Split]),
+    ("stored", &[Lookup, Chain, Read, Survey, Split]),
+    ("packed", &[Lookup, Chain, Read, Survey, Split]),
+    ("stored at 1", &[Lookup, Chain, Read, Split]),
+    ("packed at 1", &[Lookup, Chain, Read, Split]),
     ("under the top layer", &[Chain]),
     ("empty part", &[Read]),
     ("no table", &[Frame]),
@@ -82,9 +84,24 @@ const ANSWERS: [(&str, &[Call]); 39] = [
     ("described", &[Descriptor]),
     ("described, 32 extents", &[Descriptor]),
     ("found", &[Find]),
+    // Request A4: by the type of the sector's own extent, and where two refusals would hold.
+    ("from FLAT", &[Split]),
+    ("from VMFS", &[Split]),
+    ("from SPARSE", &[Split]),
+    ("from VMFSSPARSE", &[Split]),
+    ("from ZERO", &[Split]),
+    ("from the 32nd extent", &[Split]),
+    ("45, short FLAT", &[Split]),
+    ("45, short VMFS", &[Split]),
+    ("45, COWD in SPARSE", &[Split]),
+    ("45, KDMV in VMFSSPARSE", &[Split]),
+    ("45, ZERO with bytes", &[Split]),
+    ("24, sum that wraps", &[Split]),
+    ("24, sector past", &[Split]),
+    ("1 to 12, 38 too", &[Split]),
 ];
 
-/// The refusals of document 01, with the calls that can give them, a survey in its rows too; 37 is the program's own.
+/// The refusals of documents 01 and 02, with the calls that can give them, a survey in its rows too; 37 is the program's own.
 fn gives(number: u64, call: Call) -> bool {
     match call {
         Check => (1..=12).contains(&number),
@@ -98,10 +115,14 @@ fn gives(number: u64, call: Call) -> bool {
         Collapse => (1..=12).contains(&number) || (21..=23).contains(&number),
         Descriptor => (30..=36).contains(&number) || number == 21,
         Find => number == 20,
+        Split => {
+            let own = (1..=12).contains(&number) || [38, 39, 45].contains(&number);
+            own || (30..=36).contains(&number) || [20, 24].contains(&number)
+        }
     }
 }
 
-const NUMBERS: u64 = 37;
+const NUMBERS: u64 = 46;
 
 /// A row's count in each call's column.
 type Counts = [u64; CALLS.len()];
@@ -211,7 +232,7 @@ impl fmt::Display for Tally {
         if self.strange > 0 {
             writeln!(
                 to,
-                "{} answers that document 01 does not know",
+                "{} answers that documents 01 and 02 do not know",
                 self.strange
             )?;
         }

@@ -2,6 +2,7 @@
 
 mod miscounts;
 mod ones;
+mod splits;
 
 use compare::cases::run_cases;
 use compare::run::Run;
@@ -47,6 +48,7 @@ enum Mistake {
     RecordOnRefusal,
     LineFromZero,
     EndThatWraps,
+    Split(splits::Mistake),
 }
 
 use Mistake::*;
@@ -192,6 +194,13 @@ impl Side for Mistake {
         }
         found
     }
+
+    fn split(&self, text: &[u8], files: &[u8], lengths: &[u64], sector: u64) -> Located {
+        match self {
+            Split(mistake) => mistake.split(text, files, lengths, sector),
+            _ => Plain.split(text, files, lengths, sector),
+        }
+    }
 }
 
 impl Mistake {
@@ -234,7 +243,7 @@ fn tally(mistake: Mistake, count: u64) -> Tally {
 
 #[test]
 fn each_mistake_is_caught() {
-    for mistake in [
+    let mistakes = [
         OverlapAccepted,
         PlaceOfFirstGrain,
         DescriptorNumbersSwapped,
@@ -268,7 +277,8 @@ fn each_mistake_is_caught() {
         RecordOnRefusal,
         LineFromZero,
         EndThatWraps,
-    ] {
+    ];
+    for mistake in mistakes.into_iter().chain(splits::ALL.map(Split)) {
         // Few cases catch most, and as many as the gate runs the others.
         let caught = |count| {
             let tally = tally(mistake, count);

@@ -24,13 +24,12 @@ pub fn damage(rng: &mut Rng, built: &mut Built, which: u64) {
 
 /// The plan of an image that this kind of damage can be done to.
 pub fn suited(plan: Plan, which: u64) -> Plan {
-    let small = plan.size.map_or(false, |(_, grain_size)| grain_size < 8);
     let (packed, redundant) = match which % 16 {
         9..=11 => (true, false),
         12 => (false, true),
         _ => return plan,
     };
-    if small {
+    if plan.cowd == Some(true) {
         return plan;
     }
     Plan {

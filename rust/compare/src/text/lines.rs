@@ -14,7 +14,7 @@ pub fn sound(rng: &mut Rng) -> Text {
         2 => rng.within(2, 32),
         _ => rng.within(1, 3),
     };
-    let mut lines: Vec<Vec<u8>> = KEYS.iter().map(|key| required(rng, key)).collect();
+    let mut extents = Vec::new();
     let mut left = 1 << 31;
     for number in 0..count {
         let after = count - number - 1;
@@ -25,12 +25,25 @@ pub fn sound(rng: &mut Rng) -> Text {
             _ => rng.within(1, 5000).min(left - after),
         };
         left -= sectors;
-        lines.push(extent(rng, sectors));
+        extents.push(extent(rng, sectors));
     }
+    rng.shuffle(&mut extents);
+    with_extents(rng, extents)
+}
+
+/// A sound text with these extent lines, in this order, anywhere among the other lines.
+pub fn with_extents(rng: &mut Rng, extents: Vec<Vec<u8>>) -> Text {
+    let mut places: Vec<Option<Vec<u8>>> = vec![None; extents.len()];
+    places.extend(KEYS.iter().map(|key| Some(required(rng, key))));
     for _ in 0..rng.below(6) {
-        lines.push(skipped(rng));
+        places.push(Some(skipped(rng)));
     }
-    rng.shuffle(&mut lines);
+    rng.shuffle(&mut places);
+    let mut extents = extents.into_iter();
+    let filled = places
+        .into_iter()
+        .filter_map(|line| line.or_else(|| extents.next()));
+    let mut lines: Vec<Vec<u8>> = filled.collect();
     lines.insert(0, padded(rng, "# Disk DescriptorFile", true));
     for _ in 0..rng.pick(&[0, 0, 1, 3]) {
         let empty = padding(rng);
@@ -149,15 +162,25 @@ pub fn name(rng: &mut Rng) -> Vec<u8> {
 pub fn extent(rng: &mut Rng, sectors: u64) -> Vec<u8> {
     let kind = rng.pick(&["FLAT", "VMFS", "SPARSE", "VMFSSPARSE", "ZERO"]);
     let access = rng.pick(&ACCESS);
+    let any = rng.below(1 << 32);
+    let offset = rng.pick(&[0, 1, 63, (1 << 32) - 1, any]);
+    let has_offset = kind == "FLAT" || (kind == "VMFS" && rng.one_in(2));
+    extent_of(rng, access, sectors, kind, has_offset.then(|| offset))
+}
+
+/// The extent line of these numbers, in any spelling.
+pub fn extent_of(
+    rng: &mut Rng,
+    access: &str,
+    sectors: u64,
+    kind: &str,
+    offset: Option<u64>,
+) -> Vec<u8> {
     let mut fields = vec![cased(rng, access), decimal(rng, sectors), cased(rng, kind)];
     if kind != "ZERO" {
         fields.push(name(rng));
     }
-    if kind == "FLAT" || (kind == "VMFS" && rng.one_in(2)) {
-        let any = rng.below(1 << 32);
-        let offset = rng.pick(&[0, 1, 63, (1 << 32) - 1, any]);
-        fields.push(decimal(rng, offset));
-    }
+    fields.extend(offset.map(|offset| decimal(rng, offset)));
     joined(rng, &fields)
 }
 

@@ -5,7 +5,7 @@ mod edges;
 mod lines;
 
 pub use damage::damage;
-pub use lines::sound;
+pub use lines::{extent_of, sound, with_extents};
 
 /// A text as its lines, without their ends, and what follows the last one.
 #[derive(Clone)]

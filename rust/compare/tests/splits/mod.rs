@@ -1,0 +1,174 @@
+//! Mistakes about disks cut into several files: each is the plain side on other inputs, or another answer of it.
+
+use crate::{miscounts, wrapped};
+use compare::side::{Plain, Side};
+use plain::{Extent, Located};
+
+#[derive(Clone, Copy, Debug, PartialEq)]
+pub enum Mistake {
+    OffsetOfVmfsLeftOut,
+    OffsetInBytes,
+    LengthsOfZeroSkipped,
+    SectorOfTheDisk,
+    CapacityNotCompared,
+    CapacityFirst,
+    OtherMagicServed,
+    MagicAfterTheImage,
+    BytesOfZeroIgnored,
+    NoAccessServed,
+    AccessAfterTheFile,
+    CountNotCompared,
+    SumNotCompared,
+    SumThatWraps,
+    SectorBeforeLengths,
+    AllFilesJudged,
+    OneSectorShort,
+    ExtentNamedFor20,
+    ExtentNamedFor24,
+    ExtentNamedForTheText,
+    PlaceForgotten,
+}
+
+use Mistake::*;
+
+pub const ALL: [Mistake; 21] = [
+    OffsetOfVmfsLeftOut,
+    OffsetInBytes,
+    LengthsOfZeroSkipped,
+    SectorOfTheDisk,
+    CapacityNotCompared,
+    CapacityFirst,
+    OtherMagicServed,
+    MagicAfterTheImage,
+    BytesOfZeroIgnored,
+    NoAccessServed,
+    AccessAfterTheFile,
+    CountNotCompared,
+    SumNotCompared,
+    SumThatWraps,
+    SectorBeforeLengths,
+    AllFilesJudged,
+    OneSectorShort,
+    ExtentNamedFor20,
+    ExtentNamedFor24,
+    ExtentNamedForTheText,
+    PlaceForgotten,
+];
+
+impl Mistake {
+    pub fn split(self, text: &[u8], files: &[u8], lengths: &[u64], sector: u64) -> Located {
+        let mut located = Plain.split(text, files, lengths, sector);
+        let extents = plain::descriptor(text, plain::MOST_EXTENTS).1;
+        match (self, located.number) {
+            (PlaceForgotten, _) => located.place = 0,
+            (ExtentNamedFor20, 20) => located.layer = extents.len() as u64 - 1,
+            (ExtentNamedFor24, 24) => located.layer = lengths.len() as u64,
+            (ExtentNamedForTheText, 34) => located.layer = 1,
+            (SectorBeforeLengths, 24) => {
+                if Plain.find(&extents, sector).number == 20 {
+                    located.number = 20;
+                }
+            }
+            (SumThatWraps, 24) if wrapped(lengths) == files.len() as u64 => located.number = 20,
+            (CountNotCompared, 24) => {
+                let mut lengths = lengths.to_vec();
+                lengths.resize(extents.len(), 0);
+                return split_of_the_sum(text, files, &lengths, sector);
+            }
+            (SumNotCompared, 24) => return split_of_the_sum(text, files, lengths, sector),
+            (LengthsOfZeroSkipped, 0) => {
+                let mut lengths = lengths.to_vec();
+                lengths.sort_by_key(|length| *length == 0);
+                return Plain.split(text, files, &lengths, sector);
+            }
+            (_, 20 | 24 | 30..=36) => {}
+            (AllFilesJudged, _) => {
+                let files = miscounts::parts(files, lengths);
+                return first_fault(&extents, &files).unwrap_or(located);
+            }
+            _ => {
+                let own = located.layer as usize;
+                let file = miscounts::parts(files, lengths)[own];
+                let served = self.serve(located, extents[own], file, sector);
+                return Located {
+                    layer: located.layer,
+                    ..served
+                };
+            }
+        }
+        located
+    }
+
+    /// What the mistake makes of the answer on the sector's own extent and file.
+    fn serve(self, located: Located, extent: Extent, file: &[u8], sector: u64) -> Located {
+        let inside = sector - extent.first;
+        let head = Plain.header(file);
+        let other_capacity = head.number == 0 && head.capacity != extent.sectors;
+        let changed = |to: Extent| alone(to, file, inside);
+        match (self, located.number, extent.kind) {
+            (OffsetOfVmfsLeftOut, 0, 2) => changed(Extent {
+                offset: 0,
+                ..extent
+            }),
+            (OffsetInBytes, 0, 1 | 2) => changed(Extent {
+                offset: extent.offset / 512,
+                ..extent
+            }),
+            (SectorOfTheDisk, 0, _) => alone(extent, file, sector),
+            (CapacityNotCompared, 38, _) => Plain.lookup(file, inside),
+            (CapacityFirst, 1..=12, _) if other_capacity => refusal(38, 0),
+            (OtherMagicServed, 45, 3 | 4) => changed(Extent {
+                kind: 7 - extent.kind,
+                ..extent
+            }),
+            (MagicAfterTheImage, 45, 3 | 4) => match Plain.check(file) {
+                verdict if verdict.number == 0 => located,
+                verdict => refusal(verdict.number, verdict.place),
+            },
+            (BytesOfZeroIgnored, 45, 5) => alone(extent, &[], inside),
+            (NoAccessServed, 39, _) => changed(extent),
+            (AccessAfterTheFile, 39, _) if changed(extent).number == 45 => refusal(45, 0),
+            (OneSectorShort, 45, 1 | 2) => alone(extent, &[file, &[0; 512]].concat(), inside),
+            _ => located,
+        }
+    }
+}
+
+fn refusal(number: u64, place: u64) -> Located {
+    Located {
+        number,
+        place,
+        ..Located::default()
+    }
+}
+
+/// The answer on the first files alone, as many bytes as the lengths sum up to, where there are so many.
+fn split_of_the_sum(text: &[u8], files: &[u8], lengths: &[u64], sector: u64) -> Located {
+    let sum: u128 = lengths.iter().map(|length| u128::from(*length)).sum();
+    let end = files.len().min(sum as usize);
+    Plain.split(text, &files[..end], lengths, sector)
+}
+
+/// The refusal of the first extent whose file is at fault.
+fn first_fault(extents: &[Extent], files: &[&[u8]]) -> Option<Located> {
+    let mut answers = (0..).zip(extents.iter().zip(files));
+    answers.find_map(|(layer, (extent, file))| {
+        let located = alone(*extent, file, 0);
+        (located.number != 0).then(|| Located { layer, ..located })
+    })
+}
+
+/// The answer on an extent that is a disk by itself, and RW.
+fn alone(extent: Extent, file: &[u8], sector: u64) -> Located {
+    let (sectors, offset) = (extent.sectors, extent.offset);
+    let line = match extent.kind {
+        1 => format!("FLAT \"a\" {offset}"),
+        2 => format!("VMFS \"a\" {offset}"),
+        3 => "SPARSE \"a\"".to_string(),
+        4 => "VMFSSPARSE \"a\"".to_string(),
+        _ => "ZERO".to_string(),
+    };
+    let keys = "version=1\nCID=1\nparentCID=1\ncreateType=\"\"";
+    let text = format!("# Disk DescriptorFile\n{keys}\nRW {sectors} {line}");
+    Plain.split(text.as_bytes(), file, &[file.len() as u64], sector)
+}
