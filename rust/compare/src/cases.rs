@@ -4,7 +4,7 @@ use crate::image::{build, damage, suited, Built, Plan, Shape};
 use crate::rng::Rng;
 use crate::run::Run;
 use crate::tally::Call;
-use crate::{disks, frames, lists, surveys, text};
+use crate::{frames, lists, splits, surveys, text};
 use plain::Extent;
 
 /// The numbers on a program's command line: COUNT, SEED and first CASE.
@@ -44,7 +44,7 @@ pub fn case(run: &mut Run, rng: &mut Rng, number: u64) {
         7..=9 => chain_case(run, rng, which),
         10 | 11 if run.compares(Call::Collapse) => collapse_case(run, rng, which),
         12 | 13 if run.compares(Call::Descriptor) => text_case(run, rng, which),
-        14 if run.compares(Call::Split) => disks::case(run, rng, which),
+        14 if run.compares(Call::Split) => splits::case(run, rng, which),
         15 if run.compares(Call::Find) => lists::case(run, rng),
         _ => image_case(run, rng, which),
     }

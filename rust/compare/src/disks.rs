@@ -1,112 +1,12 @@
-//! Disks cut into several files, on both sides: a descriptor with extents of every type, and a file for each of them.
+//! Disks cut into several files: a descriptor with extents of every type, and a file for each of them.
 
 use crate::cases::made;
 use crate::image::{size, Plan};
-use crate::lists;
 use crate::rng::Rng;
-use crate::run::Run;
-use crate::tally::Call;
 use crate::text::{self, Text};
-use plain::{Extent, Located};
 
 /// The most sectors of a disk.
 const MOST: u64 = 1 << 31;
-
-/// By the extent's kind, from 1: the row of an answer, and that of 45.
-const ROWS: [(&str, &str); 5] = [
-    ("from FLAT", "45, short FLAT"),
-    ("from VMFS", "45, short VMFS"),
-    ("from SPARSE", "45, COWD in SPARSE"),
-    ("from VMFSSPARSE", "45, KDMV in VMFSSPARSE"),
-    ("from ZERO", "45, ZERO with bytes"),
-];
-
-impl Run<'_> {
-    pub fn split(&mut self, text: &[u8], files: &[u8], lengths: &[u64], sector: u64) {
-        let answers = self
-            .sides
-            .map(|side| side.split(text, files, lengths, sector));
-        let both = [&answers[0], &answers[1]];
-        let words = (lengths, sector);
-        self.compare(Call::Split, both, true, &[text, files], &words);
-        let located = answers[1];
-        self.count_located(Call::Split, located.number, located.kind);
-        let extents = plain::descriptor(text, plain::MOST_EXTENTS).1;
-        match located.number {
-            20 | 30..=36 => {}
-            24 => self.count_lengths(files, lengths, plain::find(&extents, sector).number == 20),
-            _ => {
-                let own = located.layer as usize;
-                let from: u64 = lengths[..own].iter().sum();
-                let file = &files[from as usize..(from + lengths[own]) as usize];
-                self.count_own(located, &extents[own], file, sector);
-            }
-        }
-    }
-
-    /// Rows of 24.
-    fn count_lengths(&mut self, files: &[u8], lengths: &[u64], past: bool) {
-        let exact: u128 = lengths.iter().map(|length| u128::from(*length)).sum();
-        let length = files.len() as u64;
-        let wraps = exact as u64 == length && exact != u128::from(length);
-        for (row, holds) in [("24, sum that wraps", wraps), ("24, sector past", past)] {
-            if holds {
-                self.tally.answered(Call::Split, row);
-            }
-        }
-    }
-
-    /// Rows of a sector's own extent and file.
-    fn count_own(&mut self, located: Located, extent: &Extent, file: &[u8], sector: u64) {
-        let (served, short) = ROWS[extent.kind as usize - 1];
-        let head = plain::header(file);
-        let other = head.number == 0 && head.capacity != extent.sectors;
-        let rows = [
-            (served, located.number == 0),
-            (
-                "from the 32nd extent",
-                located.number == 0 && located.layer == 31,
-            ),
-            (short, located.number == 45),
-            (
-                "1 to 12, 38 too",
-                (1..=12).contains(&located.number) && other,
-            ),
-        ];
-        for (row, holds) in rows {
-            if holds {
-                self.tally.answered(Call::Split, row);
-            }
-        }
-        if [3, 4].contains(&extent.kind) {
-            self.count_source(Call::Split, located, file, sector - extent.first);
-        }
-    }
-}
-
-/// A disk, asked for sectors; then with lengths that do not fit, and last with a text that is at fault.
-pub fn case(run: &mut Run, rng: &mut Rng, which: u64) {
-    let disk = Disk::choose(rng, which);
-    let text = disk.text.bytes();
-    for _ in 0..8 {
-        run.split(&text, &disk.files, &disk.lengths, rng.pick(&disk.asked));
-    }
-    let mut lengths = disk.lengths.clone();
-    lists::damage_lengths(rng, &mut lengths);
-    for _ in 0..2 {
-        run.split(&text, &disk.files, &lengths, rng.pick(&disk.asked));
-    }
-    for number in 0..2 {
-        let text = text::damage(rng, disk.text.clone(), which * 2 + number);
-        // The text's refusals come before those of its lengths.
-        let lengths = if rng.one_in(2) {
-            &lengths
-        } else {
-            &disk.lengths
-        };
-        run.split(&text, &disk.files, lengths, rng.pick(&disk.asked));
-    }
-}
 
 /// A sound text with its extents' files, which are sound or not.
 pub struct Disk {
@@ -188,9 +88,9 @@ impl Cut {
         let mut built = made(rng, plan, which, u64::from((1..8).contains(&fault)));
         let mut sectors = built.shape.capacity;
         match fault {
-            // The magic alone is enough.
+            // Four bytes are enough to tell.
             0 => built.bytes.truncate(rng.pick(&[4, 4, 511, usize::MAX])),
-            // With a damage too: the image's own numbers come first.
+            // 7 is damaged too: the image's own numbers come first.
             7 | 8 => sectors = rng.pick(&[sectors - 1, sectors + 1]).clamp(1, most),
             9 => few_or_other(rng, &mut built.bytes),
             _ => {}
@@ -212,7 +112,7 @@ impl Cut {
         let small = rng.within(1, 9);
         let large = (1 << 32) - sectors.min(small);
         let offset = rng.pick(&[0, 1, small, small, 512, large]);
-        let offset = (kind == "FLAT" || rng.one_in(2)).then(|| offset);
+        let offset = (kind == "FLAT" || rng.one_in(2)).then_some(offset);
         let start = offset.unwrap_or(0);
         let needed = (start + sectors) * 512;
         let length = match rng.below(10) {

@@ -10,6 +10,7 @@ mod ones;
 pub mod rng;
 pub mod run;
 pub mod side;
+mod splits;
 mod surveys;
 pub mod tally;
 mod text;

@@ -1,10 +1,12 @@
 //! The generators: sound inputs are accepted and say what they were made to say, whatever stands in unused places.
 
+use crate::disks::Disk;
 use crate::image::{build, suited, unused, Built, Cell, Plan, Shape, What};
 use crate::rng::Rng;
 use crate::text;
 use plain::{
-    check, collapse, descriptor, frame, lookup, normal, read, survey, ABSENT, PACKED, STORED, ZERO,
+    check, collapse, descriptor, frame, lookup, normal, read, split, survey, Extent, Located,
+    ABSENT, PACKED, STORED, ZERO,
 };
 use std::collections::BTreeSet;
 
@@ -207,4 +209,57 @@ fn sound_texts_are_described() {
             assert!(extent.kind == 5 || quoted, "{case}: {}", shown());
         }
     }
+}
+
+/// The answer of a file by itself: an image's, plain sectors', or zeros.
+fn expected(extent: &Extent, file: &[u8], inside: u64) -> Located {
+    match extent.kind {
+        3 | 4 => lookup(file, inside),
+        5 => Located {
+            kind: ZERO,
+            ..Located::default()
+        },
+        _ => Located {
+            kind: STORED,
+            sector: extent.offset + inside,
+            ..Located::default()
+        },
+    }
+}
+
+#[test]
+fn disks_serve_what_was_built() {
+    let (mut kinds, mut counts, mut sums) = (BTreeSet::new(), BTreeSet::new(), BTreeSet::new());
+    for case in 0..600 {
+        let rng = &mut Rng::new(11, case);
+        let disk = Disk::choose(rng, case);
+        let text = disk.text.bytes();
+        let (described, list) = descriptor(&text, 32);
+        let shape = (described.number, list.len());
+        assert_eq!(shape, (0, disk.lengths.len()), "{case}");
+        counts.insert(list.len());
+        let sum: u64 = list.iter().map(|extent| extent.sectors).sum();
+        sums.insert(sum);
+        for sector in disk.asked {
+            let located = split(&text, &disk.files, &disk.lengths, sector);
+            assert_eq!(located.number == 20, sector >= sum, "{case} {sector}");
+            if located.number == 20 {
+                continue;
+            }
+            let layer = located.layer as usize;
+            let from: u64 = disk.lengths[..layer].iter().sum();
+            let file = &disk.files[from as usize..(from + disk.lengths[layer]) as usize];
+            let extent = &list[layer];
+            kinds.insert((extent.kind, extent.access, located.number == 0));
+            if located.number == 0 {
+                let expected = expected(extent, file, sector - extent.first);
+                let layer = located.layer;
+                assert_eq!(located, Located { layer, ..expected }, "{case}");
+            }
+        }
+    }
+    // Five types, served and refused with two accesses, and refused with the third.
+    assert_eq!(kinds.len(), 5 * (2 + 2 + 1), "{kinds:?}");
+    assert!(counts.iter().eq(&[1, 2, 3, 4, 5, 6, 32]), "{counts:?}");
+    assert_eq!(sums.last(), Some(&(1 << 31)));
 }

@@ -203,31 +203,6 @@ impl Side for Mistake {
     }
 }
 
-impl Mistake {
-    /// Grains left out of accepted images' rows and the totals, or a refused image's in the totals.
-    fn miscount(self, images: &[u8], lengths: &[u64], rows: &mut [u64], totals: &mut Surveyed) {
-        let parts = miscounts::parts(images, lengths);
-        for (image, row) in parts.into_iter().zip(rows.chunks_mut(6)) {
-            let lost = match (self, row[4]) {
-                (LastGrainLeftOut, 0) => miscounts::last_grain(image),
-                (EntryAsOneGrain, 0) => miscounts::without_table(image),
-                (RefusedInTotals, 8..=12) => {
-                    totals.absent += 1;
-                    continue;
-                }
-                _ => continue,
-            };
-            for (count, lost) in row.iter_mut().zip(lost) {
-                *count -= lost;
-            }
-            totals.stored -= lost[0];
-            totals.zero -= lost[1];
-            totals.absent -= lost[2];
-            totals.packed -= lost[3];
-        }
-    }
-}
-
 /// The sum of lengths, as u64 adds.
 fn wrapped(lengths: &[u64]) -> u64 {
     let add = |sum: u64, next: &u64| sum.wrapping_add(*next);

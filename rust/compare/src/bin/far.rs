@@ -17,6 +17,7 @@ fn main() {
         Call::Read,
         Call::Frame,
         Call::Survey,
+        Call::Split,
     ];
     let folder = std::env::temp_dir().join("anhkhovet-differences");
     let mut run = Run::new([tested(), &Plain], calls, folder);

@@ -165,7 +165,7 @@ pub fn extent(rng: &mut Rng, sectors: u64) -> Vec<u8> {
     let any = rng.below(1 << 32);
     let offset = rng.pick(&[0, 1, 63, (1 << 32) - 1, any]);
     let has_offset = kind == "FLAT" || (kind == "VMFS" && rng.one_in(2));
-    extent_of(rng, access, sectors, kind, has_offset.then(|| offset))
+    extent_of(rng, access, sectors, kind, has_offset.then_some(offset))
 }
 
 /// The extent line of these numbers, in any spelling.

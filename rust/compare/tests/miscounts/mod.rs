@@ -1,13 +1,39 @@
 //! Surveys that count grains wrongly: what a mistake leaves out of an image's row, in the row's order.
 
 use crate::ones::one_is_zero;
+use crate::Mistake::{self, *};
 use compare::side::{Plain, Side};
-use plain::{ABSENT, PACKED, STORED};
+use plain::{Surveyed, ABSENT, PACKED, STORED};
 
 /// Stored, zero, absent, packed.
 pub type Counts = [u64; 4];
 
-/// The images of a list.
+impl Mistake {
+    /// Grains left out of accepted images' rows and the totals, or a refused image's in the totals.
+    pub fn miscount(self, images: &[u8], lengths: &[u64], rows: &mut [u64], totals: &mut Surveyed) {
+        let parts = parts(images, lengths);
+        for (image, row) in parts.into_iter().zip(rows.chunks_mut(6)) {
+            let lost = match (self, row[4]) {
+                (LastGrainLeftOut, 0) => last_grain(image),
+                (EntryAsOneGrain, 0) => without_table(image),
+                (RefusedInTotals, 8..=12) => {
+                    totals.absent += 1;
+                    continue;
+                }
+                _ => continue,
+            };
+            for (count, lost) in row.iter_mut().zip(lost) {
+                *count -= lost;
+            }
+            totals.stored -= lost[0];
+            totals.zero -= lost[1];
+            totals.absent -= lost[2];
+            totals.packed -= lost[3];
+        }
+    }
+}
+
+/// The images of a list, or the files of a disk.
 pub fn parts<'a>(images: &'a [u8], lengths: &[u64]) -> Vec<&'a [u8]> {
     let mut rest = images;
     let mut parts = Vec::new();

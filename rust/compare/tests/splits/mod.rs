@@ -57,46 +57,63 @@ pub const ALL: [Mistake; 21] = [
 
 impl Mistake {
     pub fn split(self, text: &[u8], files: &[u8], lengths: &[u64], sector: u64) -> Located {
-        let mut located = Plain.split(text, files, lengths, sector);
+        let located = Plain.split(text, files, lengths, sector);
         let extents = plain::descriptor(text, plain::MOST_EXTENTS).1;
+        let naming = |layer| Located { layer, ..located };
+        let own = located.layer as usize;
         match (self, located.number) {
-            (PlaceForgotten, _) => located.place = 0,
-            (ExtentNamedFor20, 20) => located.layer = extents.len() as u64 - 1,
-            (ExtentNamedFor24, 24) => located.layer = lengths.len() as u64,
-            (ExtentNamedForTheText, 34) => located.layer = 1,
-            (SectorBeforeLengths, 24) => {
-                if Plain.find(&extents, sector).number == 20 {
-                    located.number = 20;
-                }
-            }
-            (SumThatWraps, 24) if wrapped(lengths) == files.len() as u64 => located.number = 20,
-            (CountNotCompared, 24) => {
-                let mut lengths = lengths.to_vec();
-                lengths.resize(extents.len(), 0);
-                return split_of_the_sum(text, files, &lengths, sector);
-            }
-            (SumNotCompared, 24) => return split_of_the_sum(text, files, lengths, sector),
-            (LengthsOfZeroSkipped, 0) => {
-                let mut lengths = lengths.to_vec();
-                lengths.sort_by_key(|length| *length == 0);
-                return Plain.split(text, files, &lengths, sector);
-            }
-            (_, 20 | 24 | 30..=36) => {}
+            (PlaceForgotten, _) => Located {
+                place: 0,
+                ..located
+            },
+            (ExtentNamedFor20, 20) => naming(extents.len() as u64 - 1),
+            (ExtentNamedFor24, 24) => naming(lengths.len() as u64),
+            (ExtentNamedForTheText, 30..=36) => naming(1),
+            (SectorBeforeLengths, 24) => match Plain.find(&extents, sector).number {
+                20 => refusal(20, 0),
+                _ => located,
+            },
+            (_, 24) => self.fit(located, text, files, lengths, sector),
+            (_, 20 | 30..=36) => located,
             (AllFilesJudged, _) => {
-                let files = miscounts::parts(files, lengths);
-                return first_fault(&extents, &files).unwrap_or(located);
+                first_fault(&extents, &miscounts::parts(files, lengths)).unwrap_or(located)
+            }
+            (LengthsOfZeroSkipped, 0) => {
+                let mut skipped = lengths.to_vec();
+                skipped.sort_by_key(|length| *length == 0);
+                Plain.split(text, files, &skipped, sector)
             }
             _ => {
-                let own = located.layer as usize;
                 let file = miscounts::parts(files, lengths)[own];
+                let layer = located.layer;
                 let served = self.serve(located, extents[own], file, sector);
-                return Located {
-                    layer: located.layer,
-                    ..served
-                };
+                Located { layer, ..served }
             }
         }
-        located
+    }
+
+    /// What the mistake makes of lengths that do not fit.
+    fn fit(
+        self,
+        located: Located,
+        text: &[u8],
+        files: &[u8],
+        lengths: &[u64],
+        sector: u64,
+    ) -> Located {
+        let mut lengths = lengths.to_vec();
+        match self {
+            SumThatWraps if wrapped(&lengths) == files.len() as u64 => return refusal(20, 0),
+            CountNotCompared => {
+                let count = plain::descriptor(text, plain::MOST_EXTENTS).0.extents;
+                lengths.resize(count as usize, 0);
+            }
+            SumNotCompared => {}
+            _ => return located,
+        }
+        let sum: u128 = lengths.iter().map(|length| u128::from(*length)).sum();
+        let end = files.len().min(sum as usize);
+        Plain.split(text, &files[..end], &lengths, sector)
     }
 
     /// What the mistake makes of the answer on the sector's own extent and file.
@@ -142,19 +159,12 @@ fn refusal(number: u64, place: u64) -> Located {
     }
 }
 
-/// The answer on the first files alone, as many bytes as the lengths sum up to, where there are so many.
-fn split_of_the_sum(text: &[u8], files: &[u8], lengths: &[u64], sector: u64) -> Located {
-    let sum: u128 = lengths.iter().map(|length| u128::from(*length)).sum();
-    let end = files.len().min(sum as usize);
-    Plain.split(text, &files[..end], lengths, sector)
-}
-
 /// The refusal of the first extent whose file is at fault.
 fn first_fault(extents: &[Extent], files: &[&[u8]]) -> Option<Located> {
     let mut answers = (0..).zip(extents.iter().zip(files));
     answers.find_map(|(layer, (extent, file))| {
         let located = alone(*extent, file, 0);
-        (located.number != 0).then(|| Located { layer, ..located })
+        (located.number != 0).then_some(Located { layer, ..located })
     })
 }
 
