@@ -17,7 +17,10 @@ RW 2 FLAT \"end.raw\" 1";
     let placed = |extent, source| Placed { extent, source };
     let stored = |sector| Source::Stored { sector };
     assert_eq!(split(text, &files, &lengths, 2)?, placed(0, stored(130)));
-    assert_eq!(split(text, &files, &lengths, 2050)?, placed(1, Source::Zero));
+    assert_eq!(
+        split(text, &files, &lengths, 2050)?,
+        placed(1, Source::Zero)
+    );
     assert_eq!(split(text, &files, &lengths, 2057)?, placed(2, stored(2)));
 
     // The last file is a byte too short for its line.

@@ -1,7 +1,8 @@
 //! Each call on a thread with the stack that the documentation states, and images that all of them go through to the end.
 
 use anhkhovet::{
-    chain, check, collapse, descriptor, find, frame, header, lookup, normal, read, split, survey, STACK,
+    chain, check, collapse, descriptor, find, frame, header, lookup, normal, read, split, survey,
+    STACK,
 };
 use std::{fs, thread};
 

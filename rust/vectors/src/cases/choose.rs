@@ -1,7 +1,7 @@
 //! Which cases are stored: real images from samples, and generated ones that reach each answer of each call.
 
 use super::record::Recorder;
-use super::{Case, FIND, FRAME, IMAGE, SURVEY, TEXT};
+use super::{Case, FIND, FRAME, IMAGE, SPLIT, SURVEY, TEXT};
 use compare::cases::case;
 use compare::rng::Rng;
 use compare::run::Run;
@@ -82,7 +82,7 @@ fn wanted(case: &Case, answer: &str) -> u64 {
     let refused = !answer.contains(" 0 ");
     match (is_short(case), refused) {
         (true, _) => 15,
-        (false, _) if case.asked == SURVEY => 1,
+        (false, _) if [SURVEY, SPLIT].contains(&case.asked) => 1,
         (false, true) => 2,
         // By all its groups, or at sector 1, one is enough.
         (false, false) if case.asked == FRAME || answer.ends_with("at 1") => 1,
