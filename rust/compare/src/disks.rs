@@ -20,7 +20,7 @@ pub struct Disk {
 
 impl Disk {
     pub fn choose(rng: &mut Rng, which: u64) -> Disk {
-        let count = if rng.one_in(16) { 32 } else { rng.within(1, 6) };
+        let count = if rng.one_in(12) { 32 } else { rng.within(1, 6) };
         let (mut lines, mut files, mut lengths) = (Vec::new(), Vec::new(), Vec::new());
         let (mut asked, mut first) = (Vec::new(), 0);
         for number in 0..count {
@@ -33,7 +33,8 @@ impl Disk {
             asked.extend(cut.asked.iter().map(|inside| first + inside));
             first += cut.sectors;
         }
-        asked.extend([first - 1; 4]);
+        // Else the last of many would seldom be asked for.
+        asked.extend(vec![first - 1; count as usize / 4]);
         asked.extend([first, rng.pick(&[first + 1, 1 << 32, u64::MAX])]);
         Disk {
             text: text::with_extents(rng, lines),
@@ -57,11 +58,11 @@ struct Cut {
 impl Cut {
     /// An extent of at most `most` sectors.
     fn choose(rng: &mut Rng, most: u64, which: u64) -> Cut {
-        match rng.below(8) {
-            0..=2 => Cut::image(rng, "SPARSE", most, which),
-            3 | 4 => Cut::image(rng, "VMFSSPARSE", most, which),
-            5 => Cut::sectors(rng, "FLAT", most),
-            6 => Cut::sectors(rng, "VMFS", most),
+        match rng.below(10) {
+            0..=3 => Cut::image(rng, "SPARSE", most, which),
+            4 | 5 => Cut::image(rng, "VMFSSPARSE", most, which),
+            6 => Cut::sectors(rng, "FLAT", most),
+            7 | 8 => Cut::sectors(rng, "VMFS", most),
             _ => Cut::zeros(rng, most),
         }
     }
@@ -73,7 +74,7 @@ impl Cut {
 
     /// An image: sound, damaged, of the other kind, of no kind or of another capacity.
     fn image(rng: &mut Rng, kind: &'static str, most: u64, which: u64) -> Cut {
-        let fault = rng.below(16);
+        let fault = rng.below(20);
         let other = fault < 2;
         let cowd = (kind == "VMFSSPARSE") != other;
         let packed = rng.one_in(3);
@@ -85,24 +86,28 @@ impl Cut {
             most_sectors: 40,
             ..Plan::default()
         };
-        let mut built = made(rng, plan, which, u64::from((1..8).contains(&fault)));
+        // Half of the numbers that an image is refused for are its header's, which damage 0 is done to.
+        let which = if rng.one_in(3) { 0 } else { which };
+        let mut built = made(rng, plan, which, u64::from((1..10).contains(&fault)));
         let mut sectors = built.shape.capacity;
         match fault {
             // Four bytes are enough to tell.
             0 => built.bytes.truncate(rng.pick(&[4, 4, 511, usize::MAX])),
-            // 7 is damaged too: the image's own numbers come first.
-            7 | 8 => sectors = rng.pick(&[sectors - 1, sectors + 1]).clamp(1, most),
-            9 => few_or_other(rng, &mut built.bytes),
+            // 9 is damaged too: the image's own numbers come first.
+            9 | 10 => sectors = rng.pick(&[sectors - 1, sectors + 1]).clamp(1, most),
+            11 => few_or_other(rng, &mut built.bytes),
             _ => {}
         }
-        let inside = |asked: &&u64| **asked < sectors;
-        let asked: Vec<u64> = built.asked.iter().filter(inside).copied().collect();
+        built.asked.retain(|asked| *asked < sectors);
+        // What is stored stands last.
+        let (all, stored) = (&built.asked, &built.asked[built.asked.len() / 2..]);
+        let asked = [all, all, stored, stored, stored].map(|those| rng.pick(those));
         Cut {
             kind,
             sectors,
             offset: None,
             file: built.bytes,
-            asked: (0..4).map(|_| rng.pick(&asked)).collect(),
+            asked: asked.to_vec(),
         }
     }
 
@@ -141,7 +146,7 @@ impl Cut {
 
     fn zeros(rng: &mut Rng, most: u64) -> Cut {
         let sectors = few_or_many(rng, most);
-        let bytes = rng.pick(&[0, 0, 0, 0, 0, 0, 1, 512]);
+        let bytes = rng.pick(&[0, 0, 0, 1, 512]);
         Cut {
             kind: "ZERO",
             sectors,

@@ -109,7 +109,7 @@ pub fn ask(run: &mut Run, rng: &mut Rng, image: &[u8], capacity: u64) {
     let cut = rng.pick(&[0, 1, 512, 1 << 32]);
     let length = image.len() as u64 - cut;
     let sectors = rng.within(1, 9);
-    let offset = length / 512 - sectors + rng.below(2);
+    let offset = (length / 512).saturating_sub(sectors) + rng.below(2);
     let (kind, sectors, offset) = rng.pick(&[
         ("FLAT", sectors, Some(offset)),
         ("VMFS", sectors, Some(offset)),
