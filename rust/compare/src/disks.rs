@@ -25,7 +25,10 @@ impl Disk {
         let (mut asked, mut first) = (Vec::new(), 0);
         for number in 0..count {
             let after = count - number - 1;
-            let cut = Cut::choose(rng, MOST - first - after, which + number);
+            let left = MOST - first - after;
+            // Only the last extent can take all that is left.
+            let most = if after == 0 { left } else { left / 8 + 1 };
+            let cut = Cut::choose(rng, most, which + number);
             lines.push(cut.line(rng));
             lengths.push(cut.file.len() as u64);
             files.extend(&cut.file);
@@ -157,7 +160,7 @@ impl Cut {
     }
 }
 
-/// Sectors of an extent whose file need not hold a header; seldom all that are left.
+/// Sectors of an extent that is no image; seldom as many as there may be.
 fn few_or_many(rng: &mut Rng, most: u64) -> u64 {
     match rng.below(16) {
         0 => most,

@@ -26,12 +26,13 @@ pub enum Mistake {
     ExtentNamedFor20,
     ExtentNamedFor24,
     ExtentNamedForTheText,
-    PlaceForgotten,
+    LineForgotten,
+    GrainForgotten,
 }
 
 use Mistake::*;
 
-pub const ALL: [Mistake; 21] = [
+pub const ALL: [Mistake; 22] = [
     OffsetOfVmfsLeftOut,
     OffsetInBytes,
     LengthsOfZeroSkipped,
@@ -52,7 +53,8 @@ pub const ALL: [Mistake; 21] = [
     ExtentNamedFor20,
     ExtentNamedFor24,
     ExtentNamedForTheText,
-    PlaceForgotten,
+    LineForgotten,
+    GrainForgotten,
 ];
 
 impl Mistake {
@@ -62,10 +64,7 @@ impl Mistake {
         let naming = |layer| Located { layer, ..located };
         let own = located.layer as usize;
         match (self, located.number) {
-            (PlaceForgotten, _) => Located {
-                place: 0,
-                ..located
-            },
+            (LineForgotten, 30..=36) => refusal(located.number, 0),
             (ExtentNamedFor20, 20) => naming(extents.len() as u64 - 1),
             (ExtentNamedFor24, 24) => naming(lengths.len() as u64),
             (ExtentNamedForTheText, 30..=36) => naming(1),
@@ -133,6 +132,7 @@ impl Mistake {
             }),
             (SectorOfTheDisk, 0, _) => alone(extent, file, sector),
             (CapacityNotCompared, 38, _) => Plain.lookup(file, inside),
+            (GrainForgotten, 9 | 10, _) => refusal(located.number, 0),
             (CapacityFirst, 1..=12, _) if other_capacity => refusal(38, 0),
             (OtherMagicServed, 45, 3 | 4) => changed(Extent {
                 kind: 7 - extent.kind,
