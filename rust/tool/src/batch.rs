@@ -2,10 +2,11 @@
 
 use crate::difference::Fault;
 use crate::failure::Failure;
-use crate::files::Layers;
+use crate::given::Given;
+use crate::grains::Grains;
 use crate::hash::{Hash, Hasher, Piece};
 use crate::lines::{Content, Lines, Listed};
-use anhkhovet::{Disk, SECTOR};
+use anhkhovet::SECTOR;
 use std::path::Path;
 
 /// As many lines and bytes of sectors are worked on at once.
@@ -35,8 +36,8 @@ pub struct Batch {
 
 /// Makes batches.
 pub struct Reader<'a> {
-    layers: &'a mut Layers,
-    disk: Disk,
+    given: &'a mut Given,
+    cut: &'a Grains,
     grains: bool,
     lines: Lines,
     ended: bool,
@@ -44,14 +45,14 @@ pub struct Reader<'a> {
 
 impl<'a> Reader<'a> {
     pub fn open(
-        layers: &'a mut Layers,
-        disk: Disk,
+        given: &'a mut Given,
+        cut: &'a Grains,
         grains: bool,
         list: &Path,
     ) -> Result<Reader<'a>, Failure> {
         Ok(Reader {
-            layers,
-            disk,
+            given,
+            cut,
             grains,
             lines: Lines::open(list)?,
             ended: false,
@@ -73,7 +74,7 @@ impl<'a> Reader<'a> {
             batch.items.push(Item { line, listed });
         }
         for (first, sectors, lines) in self.rows(&batch.items) {
-            let piece = Piece::of(self.layers, first, sectors)?;
+            let piece = Piece::of(self.given, first, sectors)?;
             batch.pieces.push((piece, lines));
         }
         Ok(Some(batch).filter(|batch| !batch.items.is_empty()))
@@ -85,25 +86,20 @@ impl<'a> Reader<'a> {
             Content::Binary => return Err((None, Fault::Text)),
             Content::Entry(line) => line,
         };
-        let (sector, first) = (line.sector, self.first(line.sector));
-        if sector >= self.disk.capacity {
-            Err((Some(sector), Fault::Past(self.disk.capacity - 1)))
-        } else if self.grains && sector != first {
-            Err((Some(sector), Fault::Inside(first)))
-        } else {
-            Ok(line)
+        let (sector, capacity) = (line.sector, self.cut.capacity());
+        if sector >= capacity {
+            return Err((Some(sector), Fault::Past(capacity - 1)));
         }
-    }
-
-    /// The first sector of a sector's grain.
-    fn first(&self, sector: u64) -> u64 {
-        sector - sector % self.disk.grain_size
+        match self.cut.around(sector).start {
+            first if self.grains && sector != first => Err((Some(sector), Fault::Inside(first))),
+            _ => Ok(line),
+        }
     }
 
     /// The sectors of a line.
     fn sectors(&self, line: &Listed) -> u64 {
         if self.grains {
-            self.disk.grain_size.min(self.disk.capacity - line.sector)
+            self.cut.around(line.sector).end - line.sector
         } else {
             1
         }
@@ -120,7 +116,7 @@ impl<'a> Reader<'a> {
             let sector = line.sector;
             match rows.last_mut() {
                 Some((first, sectors, lines))
-                    if sector == *first + *sectors && self.first(sector) == self.first(*first) =>
+                    if sector == *first + *sectors && self.cut.around(*first).contains(&sector) =>
                 {
                     *sectors += 1;
                     *lines += 1;

@@ -2,13 +2,13 @@
 
 use crate::cores::in_order;
 use crate::failure::Failure;
-use crate::files::{same, Layers};
+use crate::files::same;
+use crate::given::Given;
+use crate::grains::Grains;
 use crate::hash::{digits, Hash, Hasher, Piece};
-use crate::names;
 use crate::print::{self, Printer};
 use crate::progress::Progress;
 use crate::streams;
-use anhkhovet::Disk;
 use serde_json::{json, Value};
 use std::io::Write;
 use std::path::PathBuf;
@@ -45,37 +45,19 @@ impl Line {
     }
 }
 
-/// Digests of an image's or a chain's sectors.
+/// Digests of a disk's sectors.
 struct Digests<'a> {
-    layers: &'a mut Layers,
-    capacity: u64,
-    grain_size: u64,
+    given: &'a mut Given,
+    cut: &'a Grains,
 }
 
-impl<'a> Digests<'a> {
-    fn of(layers: &'a mut Layers) -> Result<Digests<'a>, Failure> {
-        let Disk {
-            capacity,
-            grain_size,
-        } = layers.disk()?;
-        Ok(Digests {
-            layers,
-            capacity,
-            grain_size,
-        })
-    }
-
-    /// Sectors of the grain that begins there, below capacity.
-    fn grain(&self, first: u64) -> u64 {
-        self.grain_size.min(self.capacity - first)
-    }
-
+impl Digests<'_> {
     /// The next grains from `first` on, which is moved past them; nothing at the end of the disk.
     fn pieces(&mut self, first: &mut u64, grains: bool) -> Result<Option<Vec<Piece>>, Failure> {
         let (mut pieces, mut lines, mut bytes) = (Vec::new(), 0, 0);
-        while *first < self.capacity && lines < LINES && bytes < BYTES {
-            let sectors = self.grain(*first);
-            let piece = Piece::of(self.layers, *first, sectors)?;
+        while *first < self.cut.capacity() && lines < LINES && bytes < BYTES {
+            let sectors = self.cut.around(*first).end - *first;
+            let piece = Piece::of(self.given, *first, sectors)?;
             lines += if grains { 1 } else { sectors };
             bytes += piece.length();
             pieces.push(piece);
@@ -91,12 +73,12 @@ impl<'a> Digests<'a> {
         work: impl Fn(&mut Hasher, &[Piece]) -> Result<D, Failure> + Sync,
         mut take: impl FnMut(D) -> Result<(), Failure>,
     ) -> Result<(), Failure> {
-        let files = self.layers.files();
+        let files = self.given.files();
         // Lines on a terminal are progress enough, and a bar would stand between them.
         let progress = if streams::output_is_terminal() {
             None
         } else {
-            Some(Progress::start("digesting", self.capacity))
+            Some(Progress::start("digesting", self.cut.capacity()))
         };
         let mut first = 0;
         in_order(
@@ -155,18 +137,22 @@ impl<'a> Digests<'a> {
 }
 
 pub fn print(paths: &[PathBuf], grains: bool, json: bool) -> Result<(), Failure> {
-    let mut layers = Layers::open(paths)?;
-    let files = layers.files();
-    let mut digests = Digests::of(&mut layers)?;
+    let mut given = Given::open(paths)?;
+    let cut = given.cut(grains)?;
     if json {
         return print::members(|object| {
-            object.member("capacity", &digests.capacity)?;
-            names::files(object, files.iter().map(|file| file.path.as_path()))?;
-            object.member("grain_size", &digests.grain_size)?;
+            object.member("capacity", &cut.capacity())?;
+            given.tell_files(object)?;
+            object.member("grain_size", &cut.size())?;
             object.member("of", if grains { "grain" } else { "sector" })?;
-            object.list("digests", |take| digests.objects(grains, take))
+            let (given, cut) = (&mut given, &cut);
+            object.list("digests", |take| {
+                Digests { given, cut }.objects(grains, take)
+            })
         });
     }
+    let (given, cut) = (&mut given, &cut);
+    let mut digests = Digests { given, cut };
     let mut printer = Printer::new();
     digests.print(grains, &mut printer)?;
     printer.done()

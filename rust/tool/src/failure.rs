@@ -26,6 +26,8 @@ pub enum Failure {
     System(PathBuf, &'static str, io::Error),
     /// The tool itself won't: the file and why.
     Unfit(PathBuf, String),
+    /// An extent of a disk of several files: the descriptor, the extent's number, and what is wrong with it.
+    Extent(PathBuf, u64, Box<Failure>),
     /// Standard output is gone.
     Print(io::Error),
     /// All was told before.
@@ -105,7 +107,16 @@ impl Failure {
             Failure::Refused(_) | Failure::Lacking(..) => Status::Refused,
             Failure::Misused(..) => Status::Misused,
             Failure::System(..) | Failure::Unfit(..) | Failure::Print(_) => Status::Failed,
+            Failure::Extent(_, _, failure) => failure.status(),
             Failure::Told(status) => *status,
+        }
+    }
+
+    /// What is wrong with an extent itself.
+    pub fn of_extent(&self) -> &Failure {
+        match self {
+            Failure::Extent(_, _, failure) => failure,
+            failure => failure,
         }
     }
 
@@ -115,6 +126,7 @@ impl Failure {
             Failure::Refused(refusal) => refusal.file.as_deref(),
             Failure::System(file, ..) | Failure::Unfit(file, _) => Some(file),
             Failure::Lacking(file, _) | Failure::Misused(file, _) => Some(file),
+            Failure::Extent(descriptor, ..) => Some(descriptor),
             Failure::Print(_) | Failure::Told(_) => None,
         }
     }
@@ -126,6 +138,7 @@ impl Failure {
             Failure::System(_, tried, error) => format!("{tried}: {error}"),
             Failure::Lacking(_, why) | Failure::Misused(_, why) => why.to_string(),
             Failure::Unfit(_, why) => why.clone(),
+            Failure::Extent(_, extent, failure) => format!("extent {extent}: {failure}"),
             Failure::Print(error) => format!("standard output: {error}"),
             Failure::Told(_) => String::new(),
         }
@@ -135,6 +148,14 @@ impl Failure {
     pub fn json(&self) -> Value {
         match self {
             Failure::Refused(refusal) => json!({ "refused": refusal.json() }),
+            Failure::Extent(_, extent, failure) => {
+                let mut object = failure.json();
+                match object.get_mut("refused") {
+                    Some(refused) => refused["extent"] = json!(extent),
+                    None => object["failed"] = json!(self.to_string()),
+                }
+                object
+            }
             other => json!({ "failed": other.to_string() }),
         }
     }

@@ -12,8 +12,11 @@ use std::ops::Range;
 use std::path::{Path, PathBuf};
 use std::sync::Arc;
 
+/// Opened files, for threads that read grains too.
+pub type Files = Vec<Arc<Layer>>;
+
 pub struct Layers {
-    files: Arc<Vec<Layer>>,
+    files: Files,
     lengths: Vec<u64>,
     own: Own,
     parts: Vec<Part>,
@@ -45,7 +48,26 @@ impl Layers {
         Layers::of(vec![Layer::of(path, file)?])
     }
 
-    fn of(files: Vec<Layer>) -> Result<Layers, Failure> {
+    /// Of files that are open already, what decides copied.
+    pub fn of(files: Vec<Layer>) -> Result<Layers, Failure> {
+        let mut layers = Layers::laid_out(files)?;
+        for (file, part) in layers.files.iter().zip(&mut layers.parts) {
+            let own = &mut layers.own.bytes_mut()[part.bytes.clone()];
+            match frame::copy(file, own)? {
+                Ok(areas) => part.frame = areas,
+                Err(refusal) => part.broken = refusal.number == 8,
+            }
+        }
+        Ok(layers)
+    }
+
+    /// A file of plain sectors: its length decides, and none of its bytes.
+    pub fn plain(file: Layer) -> Result<Layers, Failure> {
+        Layers::laid_out(vec![file])
+    }
+
+    /// Own bytes for all files end to end, with nothing copied.
+    fn laid_out(files: Vec<Layer>) -> Result<Layers, Failure> {
         let mut parts = Vec::new();
         let mut total = 0isize;
         for file in &files {
@@ -61,20 +83,14 @@ impl Layers {
                 marked: false,
             });
         }
-        let mut own = Own::new(total as usize).map_err(|error| {
+        let own = Own::new(total as usize).map_err(|error| {
             let longest = files.iter().max_by_key(|file| file.length());
             let path = longest.map_or_else(PathBuf::new, |file| file.path.clone());
             Failure::System(path, "is too long to be mapped", error)
         })?;
-        for (file, part) in files.iter().zip(&mut parts) {
-            match frame::copy(file, &mut own.bytes_mut()[part.bytes.clone()])? {
-                Ok(areas) => part.frame = areas,
-                Err(refusal) => part.broken = refusal.number == 8,
-            }
-        }
         Ok(Layers {
             lengths: files.iter().map(Layer::length).collect(),
-            files: Arc::new(files),
+            files: files.into_iter().map(Arc::new).collect(),
             own,
             parts,
         })
@@ -92,9 +108,9 @@ impl Layers {
         self.files.iter().map(|file| file.path.as_path())
     }
 
-    /// The files themselves, for threads that read grains.
-    pub fn files(&self) -> Arc<Vec<Layer>> {
-        Arc::clone(&self.files)
+    /// The files themselves.
+    pub fn files(&self) -> Files {
+        self.files.clone()
     }
 
     pub fn file(&self, layer: u64) -> &File {
@@ -117,11 +133,9 @@ impl Layers {
         place.start as u64..place.end as u64
     }
 
-    /// A part of the file, read now.
-    pub fn part(&self, layer: u64, part: Range<u64>) -> Result<Vec<u8>, Failure> {
-        let mut bytes = vec![0; (part.end - part.start) as usize];
-        self.files[layer as usize].read(part.start, &mut bytes)?;
-        Ok(bytes)
+    /// The same of `sectors` from `first` on, all of one grain.
+    pub fn row(&self, layer: u64, first: u64, sectors: u64) -> Range<u64> {
+        self.place(layer, first).start..self.place(layer, first + sectors - 1).end
     }
 
     /// To be asked after reading and before telling.
@@ -224,8 +238,8 @@ impl Layers {
     }
 }
 
-pub fn same(files: &[Layer]) -> Result<(), Failure> {
-    files.iter().try_for_each(Layer::same)
+pub fn same(files: &[Arc<Layer>]) -> Result<(), Failure> {
+    files.iter().try_for_each(|file| file.same())
 }
 
 fn disk(image: &[u8]) -> Result<Disk, anhkhovet::Refusal> {

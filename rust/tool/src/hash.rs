@@ -2,50 +2,53 @@
 //! decide nothing.
 
 use crate::failure::Failure;
-use crate::files::Layers;
+use crate::given::Given;
 use crate::layer::Layer;
 use anhkhovet::{Source, SECTOR};
 use sha2::{Digest, Sha256};
 use std::ops::Range;
+use std::sync::Arc;
 
 /// As much is read at once.
 const PART: u64 = 1 << 20;
 
 pub type Hash = [u8; 32];
 
+/// Bytes of a file, by its number among those that are open.
+pub struct Place {
+    pub file: usize,
+    pub bytes: Range<u64>,
+}
+
 /// A grain, or some sectors of one, and where their bytes are.
 pub struct Piece {
     pub first: u64,
     sectors: u64,
-    layer: usize,
     content: Content,
 }
 
 enum Content {
     Zeros,
     /// The place of the sectors, which stand in a row.
-    Open(Range<u64>),
+    Open(Place),
     /// The place of the closed payload.
-    Packed(Range<u64>),
+    Packed(Place),
 }
 
 impl Piece {
     /// The `sectors` from `first` on, all of one grain. A packed grain is one piece, from its first sector on.
-    pub fn of(layers: &mut Layers, first: u64, sectors: u64) -> Result<Piece, Failure> {
-        let found = layers.locate(first)?;
-        let place = |sector| layers.place(found.layer, sector);
+    pub fn of(given: &mut Given, first: u64, sectors: u64) -> Result<Piece, Failure> {
+        let found = given.locate(first)?;
         let (offset, content) = match found.source {
             Source::Absent | Source::Zero => (0, Content::Zeros),
-            Source::Stored { .. } => {
-                let last = place(first + sectors - 1);
-                (0, Content::Open(place(first).start..last.end))
+            Source::Stored { .. } => (0, Content::Open(given.place(&found, first, sectors))),
+            Source::Packed { offset, .. } => {
+                (offset, Content::Packed(given.place(&found, first, 1)))
             }
-            Source::Packed { offset, .. } => (offset, Content::Packed(place(first))),
         };
         Ok(Piece {
             first: first - offset,
             sectors,
-            layer: found.layer as usize,
             content,
         })
     }
@@ -58,21 +61,21 @@ impl Piece {
     pub fn length(&self) -> u64 {
         match &self.content {
             Content::Zeros => 0,
-            Content::Open(place) | Content::Packed(place) => place.end - place.start,
+            Content::Open(place) | Content::Packed(place) => place.bytes.end - place.bytes.start,
         }
     }
 }
 
 /// Reads and hashes pieces, one after the other.
 pub struct Hasher<'a> {
-    files: &'a [Layer],
+    files: &'a [Arc<Layer>],
     buffer: Vec<u8>,
     /// The hash of this many zero bytes: most of a sparse disk.
     zeros: (u64, Hash),
 }
 
 impl<'a> Hasher<'a> {
-    pub fn new(files: &'a [Layer]) -> Hasher<'a> {
+    pub fn new(files: &'a [Arc<Layer>]) -> Hasher<'a> {
         Hasher {
             files,
             buffer: Vec::new(),
@@ -94,7 +97,7 @@ impl<'a> Hasher<'a> {
         let sectors = piece.first..piece.first + piece.sectors;
         match &piece.content {
             Content::Open(place) => {
-                let bytes = self.read(piece.layer, place)?;
+                let bytes = self.read(place.file, &place.bytes)?;
                 for (sector, bytes) in sectors.zip(bytes.chunks(SECTOR as usize)) {
                     take(sector, &Sha256::digest(bytes).into());
                 }
@@ -111,7 +114,7 @@ impl<'a> Hasher<'a> {
     pub fn whole(&mut self, piece: &Piece) -> Result<Hash, Failure> {
         match &piece.content {
             Content::Zeros => Ok(self.of_zeros(piece.sectors * SECTOR)),
-            Content::Open(place) | Content::Packed(place) => self.of_part(piece.layer, place),
+            Content::Open(place) | Content::Packed(place) => self.of_part(place),
         }
     }
 
@@ -123,20 +126,20 @@ impl<'a> Hasher<'a> {
     }
 
     /// A payload may be as long as the file.
-    fn of_part(&mut self, layer: usize, place: &Range<u64>) -> Result<Hash, Failure> {
+    fn of_part(&mut self, place: &Place) -> Result<Hash, Failure> {
         let mut hash = Sha256::new();
-        let mut at = place.start;
-        while at < place.end {
-            let end = place.end.min(at + PART);
-            hash.update(self.read(layer, &(at..end))?);
-            at = end;
+        let Range { start: mut at, end } = place.bytes;
+        while at < end {
+            let next = end.min(at + PART);
+            hash.update(self.read(place.file, &(at..next))?);
+            at = next;
         }
         Ok(hash.finalize().into())
     }
 
-    fn read(&mut self, layer: usize, place: &Range<u64>) -> Result<&[u8], Failure> {
-        self.buffer.resize((place.end - place.start) as usize, 0);
-        self.files[layer].read(place.start, &mut self.buffer)?;
+    fn read(&mut self, file: usize, part: &Range<u64>) -> Result<&[u8], Failure> {
+        self.buffer.resize((part.end - part.start) as usize, 0);
+        self.files[file].read(part.start, &mut self.buffer)?;
         Ok(&self.buffer)
     }
 }

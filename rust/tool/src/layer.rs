@@ -3,6 +3,7 @@
 use crate::failure::Failure;
 use std::fs::{self, File, FileType, Metadata, OpenOptions};
 use std::io;
+use std::ops::Range;
 use std::os::unix::fs::{FileExt, FileTypeExt, MetadataExt, OpenOptionsExt};
 use std::os::unix::io::AsRawFd;
 use std::path::{Path, PathBuf};
@@ -23,6 +24,8 @@ struct Facts {
     changed: (i64, i64),
 }
 
+pub const UNOPENED: &str = "cannot be opened";
+
 const TICK: Duration = Duration::from_millis(1);
 /// Longer than the clock by which files are stamped takes to go on.
 const STILL: u32 = 20;
@@ -42,16 +45,22 @@ impl Facts {
 }
 
 impl Layer {
-    /// Anything but a plain file is told at once: it is neither opened nor waited for.
     pub fn open(path: &Path) -> Result<Layer, Failure> {
-        let tried = "cannot be opened";
-        let facts = fs::metadata(path).map_err(Failure::system(path, tried))?;
-        plain(path, facts.file_type())?;
+        there(path)?;
+        Layer::opened(path, path, libc::O_NONBLOCK)
+    }
+
+    /// The file that `path` was found to lead to, which is no link.
+    pub fn open_found(path: &Path, found: &Path) -> Result<Layer, Failure> {
+        Layer::opened(path, found, libc::O_NONBLOCK | libc::O_NOFOLLOW)
+    }
+
+    fn opened(path: &Path, found: &Path, flags: libc::c_int) -> Result<Layer, Failure> {
         let file = OpenOptions::new()
             .read(true)
-            .custom_flags(libc::O_NONBLOCK)
-            .open(path)
-            .map_err(Failure::system(path, tried))?;
+            .custom_flags(flags)
+            .open(found)
+            .map_err(Failure::system(path, UNOPENED))?;
         Layer::of(path, file)
     }
 
@@ -96,6 +105,13 @@ impl Layer {
         }
     }
 
+    /// A part of the file, read now.
+    pub fn part(&self, part: Range<u64>) -> Result<Vec<u8>, Failure> {
+        let mut bytes = vec![0; (part.end - part.start) as usize];
+        self.read(part.start, &mut bytes)?;
+        Ok(bytes)
+    }
+
     /// Fills `to` with the file's bytes from `at` on.
     pub fn read(&self, at: u64, to: &mut [u8]) -> Result<(), Failure> {
         self.file
@@ -136,6 +152,12 @@ impl Layer {
         let found = unsafe { libc::lseek(self.file.as_raw_fd(), at as libc::off_t, to) };
         u64::try_from(found).map_err(|_| io::Error::last_os_error())
     }
+}
+
+/// Anything but a plain file is told at once: it is neither opened nor waited for.
+pub fn there(path: &Path) -> Result<(), Failure> {
+    let facts = fs::metadata(path).map_err(Failure::system(path, UNOPENED))?;
+    plain(path, facts.file_type())
 }
 
 fn look(path: &Path, file: &File) -> Result<Metadata, Failure> {

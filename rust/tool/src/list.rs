@@ -4,14 +4,15 @@ use crate::batch::{Batch, Found, Item, Reader};
 use crate::cores::in_order;
 use crate::difference::{Difference, Fault};
 use crate::failure::{Failure, Status};
-use crate::files::{same, Layers};
+use crate::files::same;
+use crate::given::Given;
+use crate::grains::Grains;
 use crate::hash::Hasher;
 use crate::lines::Listed;
 use crate::named::Named;
 use crate::names;
 use crate::print::{self, Printer};
 use crate::progress::Progress;
-use anhkhovet::Disk;
 use std::path::PathBuf;
 
 /// What to compare with, and how.
@@ -28,7 +29,9 @@ type Tell<'a> = &'a mut dyn FnMut(&Difference) -> Result<(), Failure>;
 /// A comparison and how far it went.
 struct Comparison<'a> {
     asked: &'a Asked,
-    disk: Disk,
+    cut: &'a Grains,
+    /// Sectors of what a line tells: of a grain, if grains are compared.
+    unit: u64,
     /// Sectors of the disk or, if grains are compared, grains.
     units: u64,
     named: Named,
@@ -37,12 +40,13 @@ struct Comparison<'a> {
 }
 
 impl<'a> Comparison<'a> {
-    fn of(disk: Disk, asked: &'a Asked) -> Comparison<'a> {
-        let unit = if asked.grains { disk.grain_size } else { 1 };
-        let units = (disk.capacity + unit - 1) / unit;
+    fn of(cut: &'a Grains, asked: &'a Asked) -> Comparison<'a> {
+        let unit = cut.size().filter(|_| asked.grains).unwrap_or(1);
+        let units = (cut.capacity() + unit - 1) / unit;
         Comparison {
             asked,
-            disk,
+            cut,
+            unit,
             units,
             named: Named::below(units),
             lines: 0,
@@ -51,11 +55,11 @@ impl<'a> Comparison<'a> {
     }
 
     /// Compares with each line, on all cores, and hands over in their order those that do not hold.
-    fn run(&mut self, layers: &mut Layers, tell: Tell) -> Result<(), Failure> {
+    fn run(&mut self, given: &mut Given, tell: Tell) -> Result<(), Failure> {
         let grains = self.asked.grains;
-        let files = layers.files();
+        let files = given.files();
         let mut progress = Some(Progress::start("comparing", 0));
-        let mut reader = Reader::open(layers, self.disk, grains, &self.asked.list)?;
+        let mut reader = Reader::open(given, self.cut, grains, &self.asked.list)?;
         in_order(
             || reader.next(),
             |batch| {
@@ -120,13 +124,9 @@ impl<'a> Comparison<'a> {
 
     /// Whether a sector was not named before. The line of a packed grain names all sectors of it.
     fn name(&mut self, sector: u64, packed: bool) -> bool {
-        let size = self.disk.grain_size;
-        if self.asked.grains {
-            return self.named.mark(sector / size);
-        }
-        let new = self.named.mark(sector);
-        if packed {
-            let end = self.units.min(sector + size);
+        let new = self.named.mark(sector / self.unit);
+        if packed && !self.asked.grains {
+            let end = self.cut.around(sector).end;
             (sector + 1..end).for_each(|sector| {
                 self.named.mark(sector);
             });
@@ -142,7 +142,7 @@ impl<'a> Comparison<'a> {
         self.failed == 0 && self.lines > 0 && !(self.asked.complete && self.left_out() > 0)
     }
 
-    fn unit(&self) -> &'static str {
+    fn word(&self) -> &'static str {
         if self.asked.grains {
             "grain"
         } else {
@@ -151,7 +151,7 @@ impl<'a> Comparison<'a> {
     }
 
     fn summary(&self) -> String {
-        let (lines, failed, units, unit) = (self.lines, self.failed, self.units, self.unit());
+        let (lines, failed, units, unit) = (self.lines, self.failed, self.units, self.word());
         let compared = match failed {
             _ if lines == 0 => "there is no line to compare with".to_string(),
             0 => format!("all {lines} digests agree"),
@@ -173,23 +173,24 @@ impl<'a> Comparison<'a> {
 }
 
 pub fn compare(paths: &[PathBuf], asked: &Asked, json: bool) -> Result<(), Failure> {
-    let mut layers = Layers::open(paths)?;
-    let mut comparison = Comparison::of(layers.disk()?, asked);
+    let mut given = Given::open(paths)?;
+    let cut = given.cut(asked.grains)?;
+    let mut comparison = Comparison::of(&cut, asked);
     if json {
         print::members(|object| {
             object.list("differences", |take| {
-                comparison.run(&mut layers, &mut |difference| take(&difference.object()))
+                comparison.run(&mut given, &mut |difference| take(&difference.object()))
             })?;
             object.member("agree", &comparison.holds())?;
             object.member("compared", &comparison.lines)?;
             object.member("disk", &comparison.units)?;
             object.member("left_out", &comparison.left_out())?;
-            object.member("of", comparison.unit())
+            object.member("of", comparison.word())
         })?;
     } else {
         let mut printer = Printer::new();
         let name = names::name(&asked.list);
-        comparison.run(&mut layers, &mut |difference| {
+        comparison.run(&mut given, &mut |difference| {
             printer.text(&format!("{name}: {}\n", difference.text()))
         })?;
         printer.text(&comparison.summary())?;

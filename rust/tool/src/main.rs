@@ -3,11 +3,13 @@
 //! The library is lent memory of the tool's own, into which what decides is copied, and the tool tells its answers.
 
 mod batch;
+mod beside;
 mod check;
 mod cli;
 mod commands;
 mod cores;
 mod describe;
+mod described;
 mod difference;
 mod digest;
 mod entries;
@@ -15,8 +17,11 @@ mod failure;
 mod files;
 mod folder;
 mod frame;
+mod given;
+mod grains;
 mod guard;
 mod hash;
+mod hint;
 mod json;
 mod kept;
 mod layer;
@@ -25,6 +30,7 @@ mod lines;
 mod list;
 mod map;
 mod mapping;
+mod member;
 mod named;
 mod names;
 mod output;
@@ -36,9 +42,12 @@ mod room;
 mod sector;
 mod signals;
 mod source;
+mod split;
 mod streams;
 mod survey;
 mod table;
+mod text;
+mod verdicts;
 mod worker;
 mod write;
 mod writeback;
@@ -85,7 +94,7 @@ fn command() -> i32 {
     };
     match ended {
         Ok(()) => 0,
-        Err(failure) => tell(describe::hinted(failure), json),
+        Err(failure) => tell(hint::hinted(failure), json),
     }
 }
 

@@ -1,16 +1,17 @@
 //! `map`: the runs of sectors that have one source. All sectors of a grain have one, so one lookup a grain is enough.
 
 use crate::failure::Failure;
-use crate::files::Layers;
-use crate::names::{self, name};
+use crate::given::Given;
+use crate::grains::Grains;
+use crate::names::name;
 use crate::print::{self, Printer};
 use crate::progress::Progress;
 use crate::source::{file_sector, word};
-use anhkhovet::{Disk, Located, Source, SECTOR};
+use anhkhovet::{Located, Source, SECTOR};
 use serde_json::{json, Value};
 use std::path::PathBuf;
 
-/// Sectors in a row from one layer, of one kind and, where stored, in a row in the file too.
+/// Sectors in a row from one layer or extent, of one kind and, where stored, in a row in the file too.
 struct Run {
     first: u64,
     sectors: u64,
@@ -32,13 +33,14 @@ impl Run {
             }
     }
 
-    fn object(&self) -> Value {
+    /// `holder` says what the layer is called.
+    fn object(&self, holder: &str) -> Value {
         let mut object = json!({
             "first": self.first,
             "sectors": self.sectors,
-            "layer": self.layer,
             "kind": word(self.source),
         });
+        object[holder] = json!(self.layer);
         if let Some(at) = file_sector(self.source) {
             object["file_sector"] = json!(at);
             object["byte_offset"] = json!(at * SECTOR);
@@ -49,7 +51,7 @@ impl Run {
         object
     }
 
-    fn line(&self) -> String {
+    fn line(&self, holder: &str) -> String {
         let place = match self.source {
             Source::Absent | Source::Zero => String::new(),
             Source::Stored { sector: at } => format!(" {at:>12} {:>14}", at * SECTOR),
@@ -59,20 +61,22 @@ impl Run {
         };
         let (first, sectors, layer, kind) =
             (self.first, self.sectors, self.layer, word(self.source));
-        format!("{first:>12} {sectors:>12} {layer:>5} {kind:<7}{place}")
+        let width = holder.len();
+        format!("{first:>12} {sectors:>12} {layer:>width$} {kind:<7}{place}")
             .trim_end()
             .to_string()
             + "\n"
     }
 }
 
-fn runs(layers: &mut Layers, disk: Disk) -> Result<Vec<Run>, Failure> {
-    let progress = Progress::start("mapping", disk.capacity);
+fn runs(given: &mut Given, cut: &Grains) -> Result<Vec<Run>, Failure> {
+    let capacity = cut.capacity();
+    let progress = Progress::start("mapping", capacity);
     let mut runs: Vec<Run> = Vec::new();
     let mut first = 0;
-    while first < disk.capacity {
-        let found = layers.locate(first)?;
-        let sectors = disk.grain_size.min(disk.capacity - first);
+    while first < capacity {
+        let found = given.locate(first)?;
+        let sectors = cut.around(first).end - first;
         match runs.last_mut() {
             Some(run) if run.goes_on(&found) => run.sectors += sectors,
             _ => runs.push(Run {
@@ -88,37 +92,44 @@ fn runs(layers: &mut Layers, disk: Disk) -> Result<Vec<Run>, Failure> {
     Ok(runs)
 }
 
-pub fn map(paths: &[PathBuf], json: bool) -> Result<(), Failure> {
-    let mut layers = Layers::open(paths)?;
-    let disk = layers.disk()?;
-    let Disk {
-        capacity,
-        grain_size,
-    } = disk;
-    let runs = runs(&mut layers, disk)?;
-    layers.same()?;
+/// The files, and capacity and grain size.
+fn heading(given: &Given, cut: &Grains) -> String {
+    let line = |(layer, path)| format!("layer {layer}: {}\n", name(path));
+    let files: String = match given {
+        Given::Layers(layers) => layers.paths().enumerate().map(line).collect(),
+        Given::Split(split) => split.lines(),
+    };
+    let size = match cut.size() {
+        Some(size) => format!(", grain size {size}"),
+        None => String::new(),
+    };
+    format!("{files}capacity {} sectors{size}\n", cut.capacity())
+}
 
+pub fn map(paths: &[PathBuf], json: bool) -> Result<(), Failure> {
+    let mut given = Given::open(paths)?;
+    let cut = given.grains()?;
+    let runs = runs(&mut given, &cut)?;
+    given.same()?;
+
+    let holder = given.word();
     if json {
         return print::members(|object| {
-            object.member("capacity", &capacity)?;
-            names::files(object, layers.paths())?;
-            object.member("grain_size", &grain_size)?;
+            object.member("capacity", &cut.capacity())?;
+            given.tell_files(object)?;
+            object.member("grain_size", &cut.size())?;
             object.list("runs", |take| {
-                runs.iter().try_for_each(|run| take(&run.object()))
+                runs.iter().try_for_each(|run| take(&run.object(holder)))
             })
         });
     }
     let mut printer = Printer::new();
-    for (layer, path) in layers.paths().enumerate() {
-        printer.text(&format!("layer {layer}: {}\n", name(path)))?;
-    }
+    printer.text(&heading(&given, &cut))?;
     printer.text(&format!(
-        "capacity {capacity} sectors, grain size {grain_size}\n"
+        "       first      sectors {holder} kind     file sector    byte offset    size\n"
     ))?;
-    printer
-        .text("       first      sectors layer kind     file sector    byte offset    size\n")?;
     for run in &runs {
-        printer.text(&run.line())?;
+        printer.text(&run.line(holder))?;
     }
     printer.done()
 }

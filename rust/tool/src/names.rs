@@ -109,6 +109,16 @@ pub fn put_name(object: &mut Value, key: &str, path: &Path) {
     put_bytes(object, key, path.as_os_str().as_bytes());
 }
 
+/// The members `file` and, where the name is not UTF-8, `file_bytes`.
+pub fn file(object: &mut Object, path: &Path) -> Result<(), Failure> {
+    let name = path.as_os_str().as_bytes();
+    object.member("file", &string(name))?;
+    match str::from_utf8(name) {
+        Ok(_) => Ok(()),
+        Err(_) => object.member("file_bytes", &hex(name)),
+    }
+}
+
 /// The members `files` and, where a name is not UTF-8, `files_bytes`.
 pub fn files<'a>(
     object: &mut Object,

@@ -2,32 +2,33 @@
 
 use crate::cli::Target;
 use crate::failure::Failure;
-use crate::files::Layers;
+use crate::given::Given;
 use crate::names::{hex, put_name};
 use crate::output::Output;
 use crate::print::{self, Printer};
 use crate::source;
 use anhkhovet::{Located, Source, SECTOR};
 use serde_json::{json, Value};
+use std::ops::Range;
 use std::path::PathBuf;
 
 /// As much is read and told at once: the payload of a packed grain may be as long as the file.
 const PART: u64 = 1 << 20;
 
 pub fn sector(paths: &[PathBuf], sector: u64, json: bool) -> Result<(), Failure> {
-    let mut layers = Layers::open(paths)?;
-    let found = layers.locate(sector)?;
-    layers.same()?;
+    let mut given = Given::at(paths, sector)?;
+    let found = given.locate(sector)?;
+    given.same()?;
     print::answer(
         json,
-        || source::told(&layers, sector, &found) + "\n",
-        || source::object(&layers, sector, &found),
+        || source::told(&given, sector, &found) + "\n",
+        || source::object(&given, sector, &found),
     )
 }
 
 /// A located sector and its bytes.
 struct Content {
-    layers: Layers,
+    given: Given,
     sector: u64,
     found: Located,
 }
@@ -45,14 +46,15 @@ impl Content {
         if let Source::Absent | Source::Zero = self.found.source {
             return take(&[0; SECTOR as usize]);
         }
-        let place = self.layers.place(self.found.layer, self.sector);
-        let mut at = place.start;
-        while at < place.end {
-            let end = place.end.min(at + PART);
-            let bytes = self.layers.part(self.found.layer, at..end)?;
-            self.layers.same()?;
+        let place = self.given.place(&self.found, self.sector, 1);
+        let file = &self.given.files()[place.file];
+        let Range { start: mut at, end } = place.bytes;
+        while at < end {
+            let next = end.min(at + PART);
+            let bytes = file.part(at..next)?;
+            self.given.same()?;
             take(&bytes)?;
-            at = end;
+            at = next;
         }
         Ok(())
     }
@@ -64,7 +66,7 @@ impl Content {
     }
 
     fn object(&self, target: Option<&Target>) -> Result<Value, Failure> {
-        let mut object = source::object(&self.layers, self.sector, &self.found);
+        let mut object = source::object(&self.given, self.sector, &self.found);
         object["length"] = json!(self.length());
         match target {
             Some(target) => put_name(&mut object, "output", &target.path),
@@ -87,15 +89,15 @@ pub fn read(
     target: Option<Target>,
     json: bool,
 ) -> Result<(), Failure> {
-    let mut layers = Layers::open(paths)?;
+    let mut given = Given::at(paths, sector)?;
     let output = match &target {
-        Some(target) => Some(Output::create(target, paths)?),
+        Some(target) => Some(Output::create(target, &given.paths())?),
         None => None,
     };
-    let found = layers.locate(sector)?;
-    layers.same()?;
+    let found = given.locate(sector)?;
+    given.same()?;
     let content = Content {
-        layers,
+        given,
         sector,
         found,
     };

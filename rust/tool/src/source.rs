@@ -1,6 +1,6 @@
 //! Where a sector comes from, as the tool tells it.
 
-use crate::files::Layers;
+use crate::given::{Given, Holder};
 use crate::names::{name, put_name};
 use anhkhovet::{Located, Source, SECTOR};
 use serde_json::{json, Value};
@@ -23,14 +23,21 @@ pub fn file_sector(source: Source) -> Option<u64> {
 }
 
 /// One sector's source, in words.
-pub fn told(layers: &Layers, sector: u64, found: &Located) -> String {
-    let file = name(layers.path(found.layer));
-    let place = format!("layer {} ({file})", found.layer);
+pub fn told(given: &Given, sector: u64, found: &Located) -> String {
+    let Holder {
+        number,
+        file,
+        chain,
+    } = given.holder(found);
+    let file = file.map_or_else(|| "ZERO, no file".to_string(), |file| name(&file));
+    let place = format!("{} {number} ({file})", given.word());
     match found.source {
-        Source::Absent if layers.count() == 1 => {
+        Source::Absent if chain => {
+            format!("sector {sector}: absent in every layer, so it reads as zeros")
+        }
+        Source::Absent => {
             format!("sector {sector}: absent in {place}, so it reads as zeros or from a parent")
         }
-        Source::Absent => format!("sector {sector}: absent in every layer, so it reads as zeros"),
         Source::Zero => format!("sector {sector}: zero in {place}, so it reads as zeros"),
         Source::Stored { sector: at } => format!(
             "sector {sector}: stored in {place}, file sector {at}, byte offset {}",
@@ -44,13 +51,16 @@ pub fn told(layers: &Layers, sector: u64, found: &Located) -> String {
 }
 
 /// The same as an object.
-pub fn object(layers: &Layers, sector: u64, found: &Located) -> Value {
+pub fn object(given: &Given, sector: u64, found: &Located) -> Value {
+    let holder = given.holder(found);
     let mut object = json!({
         "sector": sector,
-        "layer": found.layer,
         "kind": word(found.source),
     });
-    put_name(&mut object, "file", layers.path(found.layer));
+    object[given.word()] = json!(holder.number);
+    if let Some(file) = holder.file {
+        put_name(&mut object, "file", &file);
+    }
     if let Some(at) = file_sector(found.source) {
         object["file_sector"] = json!(at);
         object["byte_offset"] = json!(at * SECTOR);

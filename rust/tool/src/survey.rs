@@ -1,9 +1,9 @@
 //! `survey`: how full images are, each by itself and all together. Refused images are part of the answer.
 
 use crate::cores::in_order;
-use crate::describe::hinted;
 use crate::failure::{Failure, Status};
 use crate::files::Layers;
+use crate::hint::hinted;
 use crate::names::put_name;
 use crate::print;
 use crate::progress::Progress;

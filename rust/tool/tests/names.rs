@@ -261,8 +261,8 @@ fn texts_from_inside_a_descriptor() {
         assert!(harmless(told.as_bytes()), "{told:?}");
         let kind = told.lines().nth(4).expect("a line");
         assert_eq!(read_back(&kind["createType: ".len()..]), name);
-        let extent = told.lines().last().expect("a line");
-        assert_eq!(read_back(&extent[64..]), name, "{extent}");
+        let extent = told.lines().nth(6).expect("a line");
+        assert_eq!(read_back(&extent[74..]), name, "{extent}");
 
         let ran = run(&folder, &[b"describe", b"--json", b"text"]);
         assert!(harmless(&ran.well().out), "{}", ran.text());

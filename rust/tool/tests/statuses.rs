@@ -10,7 +10,7 @@ use std::process::{Command, Stdio};
 
 const FILES: [&str; 3] = ["tool-base.vmdk", "tool-middle.vmdk", "two-gb-sparse.vmdk"];
 
-/// The samples, a list that holds and one that does not.
+/// The samples, of which one is a descriptor without its extent's file, a list that holds and one that does not.
 fn folder() -> Folder {
     let folder = Folder::new().with(&FILES);
     let digests = run(folder.path(), &["digest", "tool-base.vmdk"]);
@@ -32,8 +32,9 @@ fn each_status_has_its_meaning() {
         ("check tool-base.vmdk", 0),
         ("digest tool-base.vmdk --list holds", 0),
         ("survey two-gb-sparse.vmdk", 0),
-        ("check two-gb-sparse.vmdk", 1),
-        ("map two-gb-sparse.vmdk", 1),
+        ("check holds", 1),
+        ("map holds", 1),
+        ("map tool-base.vmdk two-gb-sparse.vmdk", 1),
         ("sector tool-base.vmdk 2048", 1),
         ("collapse tool-base.vmdk two-gb-sparse.vmdk -o out", 1),
         ("describe holds", 1),
@@ -49,6 +50,8 @@ fn each_status_has_its_meaning() {
         ("survey missing tool-base.vmdk", 4),
         ("map missing", 4),
         ("map .", 4),
+        ("check two-gb-sparse.vmdk", 4),
+        ("map two-gb-sparse.vmdk", 4),
         ("digest tool-base.vmdk --list missing", 4),
         ("normal tool-base.vmdk -o holds", 4),
         ("normal tool-base.vmdk -o missing/out", 4),
@@ -62,12 +65,10 @@ fn of_several_files_the_greatest_status_counts() {
     let folder = folder();
     for (words, wanted) in [
         ("check tool-base.vmdk tool-middle.vmdk", 0),
-        (
-            "check tool-base.vmdk two-gb-sparse.vmdk tool-middle.vmdk",
-            1,
-        ),
-        ("check missing two-gb-sparse.vmdk tool-base.vmdk", 4),
-        ("check tool-base.vmdk two-gb-sparse.vmdk missing", 4),
+        ("check tool-base.vmdk holds tool-middle.vmdk", 1),
+        ("check missing holds tool-base.vmdk", 4),
+        ("check tool-base.vmdk holds missing", 4),
+        ("check tool-base.vmdk holds two-gb-sparse.vmdk", 4),
     ] {
         assert_eq!(status(&folder, words), Some(wanted), "{words}");
         let json = format!("--json {words}");
@@ -78,7 +79,7 @@ fn of_several_files_the_greatest_status_counts() {
 #[test]
 fn check_has_a_line_for_every_file_in_order() {
     let folder = folder();
-    let words = ["check", "missing", FILES[0], ".", FILES[2], FILES[1]];
+    let words = ["check", "missing", FILES[0], ".", "holds", FILES[1]];
     let ran = run(folder.path(), &words);
     assert_eq!((ran.status, ran.err.as_str()), (Some(4), ""));
     let text = ran.text();

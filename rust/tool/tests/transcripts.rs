@@ -5,12 +5,15 @@
 //! the exit status where it is not 0.
 
 mod common;
+#[path = "common/disks.rs"]
+mod disks;
 
 use common::{run, Folder};
 use std::fs;
 use std::path::Path;
 
-const SAMPLES: [&str; 9] = [
+const SAMPLES: [&str; 10] = [
+    "cowd-s001.vmdk",
     "delta.vmdk",
     "monolithic-sparse.vmdk",
     "stream-optimized.vmdk",
@@ -27,7 +30,6 @@ fn add_files(folder: &Folder) {
     let base = fs::read(folder.at("tool-base.vmdk")).expect("a sample");
     fs::write(folder.at("empty"), b"").expect("written");
     fs::write(folder.at("short"), &base[..300]).expect("written");
-    fs::write(folder.at("cut"), &base[..base.len() - 512]).expect("written");
 
     // Entry 256 stands in a redundant table and, after it, in the primary one.
     let entries: Vec<usize> = (21 * 512..65536)
@@ -81,6 +83,7 @@ fn transcript(name: &str) {
         .join(name);
     let stored = fs::read_to_string(&path).expect("a transcript");
     let folder = Folder::new().with(&SAMPLES);
+    disks::add(&folder);
     add_files(&folder);
 
     let mut now = String::new();
@@ -122,4 +125,4 @@ macro_rules! transcripts {
     };
 }
 
-transcripts!(check survey sector read map digest collapse normal describe refusals);
+transcripts!(check survey sector read map digest collapse normal describe refusals split);

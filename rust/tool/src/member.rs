@@ -1,0 +1,132 @@
+//! One extent of a disk of several files, with its file: judged by the library's `split`, and then asked file by file.
+
+use crate::described::Described;
+use crate::failure::{Failure, Refusal};
+use crate::files::{same, Files, Layers};
+use crate::source::file_sector;
+use anhkhovet::{Access, ExtentKind, Source, SECTOR};
+use std::ops::Range;
+
+pub struct Member {
+    /// The extent, from 0.
+    pub number: usize,
+    pub first: u64,
+    pub sectors: u64,
+    kind: ExtentKind,
+    /// None for ZERO, and for NOACCESS, whose file nobody is to look at.
+    file: Option<Layers>,
+    judged: Option<Judged>,
+}
+
+/// What an extent is once the library has judged it wholly.
+enum Judged {
+    /// An accepted image, and its grain size.
+    Image(u64),
+    /// Plain sectors, from this file sector on.
+    Plain(u64),
+    Zeros,
+}
+
+impl Member {
+    pub fn open(disk: &Described, number: usize) -> Result<Member, Failure> {
+        let extent = &disk.extents[number];
+        let file = match (extent.access, extent.kind) {
+            (Access::None, _) | (_, ExtentKind::Zero) => None,
+            (_, ExtentKind::Flat | ExtentKind::Vmfs) => Some(Layers::plain(disk.open(number)?)?),
+            (_, ExtentKind::Sparse | ExtentKind::VmfsSparse) => {
+                Some(Layers::of(vec![disk.open(number)?])?)
+            }
+        };
+        Ok(Member {
+            number,
+            first: extent.first,
+            sectors: extent.sectors,
+            kind: extent.kind,
+            file,
+            judged: None,
+        })
+    }
+
+    pub fn files(&self) -> Files {
+        self.file.as_ref().map_or_else(Files::new, Layers::files)
+    }
+
+    /// The grain size, where it is an image that was judged.
+    pub fn grain_size(&self) -> Option<u64> {
+        match self.judged {
+            Some(Judged::Image(size)) => Some(size),
+            _ => None,
+        }
+    }
+
+    /// What the library's `split` says of a sector of this extent. Of the other files nothing decides, so none of their bytes
+    /// are lent: a law of the library has it (`own-file-alone` in crate `laws`).
+    fn split(&mut self, disk: &Described, sector: u64) -> Result<Source, Failure> {
+        let mut lengths = vec![0; disk.extents.len()];
+        let ask = |lengths: &[u64], bytes: &[u8]| {
+            anhkhovet::split(&disk.text.bytes, bytes, lengths, sector)
+                .map(|placed| placed.source)
+                .map_err(|refused| refused.refusal)
+        };
+        let answer = match &mut self.file {
+            None => ask(&lengths, &[]),
+            Some(file) => {
+                lengths[self.number] = file.bytes(0).len() as u64;
+                file.ask(0, |bytes| ask(&lengths, bytes))?
+            }
+        };
+        disk.file.same()?;
+        same(&self.files())?;
+        let path = self.file.as_ref().map(|file| file.path(0));
+        answer.map_err(|why| Failure::Refused(Refusal::new(why, path)))
+    }
+
+    /// Judges the extent wholly: what its first sector is not refused for, none of its sectors is.
+    pub fn judge(&mut self, disk: &Described) -> Result<(), Failure> {
+        let source = self.split(disk, self.first)?;
+        self.judged = Some(match (source, &self.file, self.kind) {
+            (_, Some(file), ExtentKind::Sparse | ExtentKind::VmfsSparse) => {
+                let header = anhkhovet::header(file.bytes(0));
+                Judged::Image(
+                    header
+                        .map_err(Failure::refused(file.path(0)))?
+                        .disk
+                        .grain_size,
+                )
+            }
+            (Source::Stored { sector }, ..) => Judged::Plain(sector),
+            _ => Judged::Zeros,
+        });
+        Ok(())
+    }
+
+    /// Where a sector of the disk that this extent holds comes from. Once the extent is judged, that is the lookup's answer on
+    /// its file alone (`sparse-served` and its like in crate `laws`).
+    pub fn locate(&mut self, disk: &Described, sector: u64) -> Result<Source, Failure> {
+        let inside = sector - self.first;
+        match (&self.judged, &self.file) {
+            (Some(Judged::Image(_)), Some(file)) => {
+                let found = anhkhovet::lookup(file.bytes(0), inside);
+                found.map_err(Failure::refused(file.path(0)))
+            }
+            (Some(Judged::Plain(start)), _) => Ok(Source::Stored {
+                sector: start + inside,
+            }),
+            (Some(_), _) => Ok(Source::Zero),
+            (None, _) => self.split(disk, sector),
+        }
+    }
+
+    /// Where the bytes of `sectors` from `first` on are in the file, all of them of one grain, with this source.
+    pub fn place(&self, source: Source, first: u64, sectors: u64) -> Range<u64> {
+        match (self.kind, &self.file) {
+            (ExtentKind::Sparse | ExtentKind::VmfsSparse, Some(file)) => {
+                file.row(0, first - self.first, sectors)
+            }
+            _ => {
+                let at = file_sector(source).unwrap_or(0);
+                SECTOR * at..SECTOR * (at + sectors)
+            }
+        }
+    }
+}

@@ -1,0 +1,163 @@
+//! A disk of several files: the extents of a descriptor, all of them or the one that holds a sector.
+
+use crate::described::Described;
+use crate::failure::{Failure, Refusal};
+use crate::files::{same, Files};
+use crate::grains::Grains;
+use crate::hash::Place;
+use crate::json::Object;
+use crate::member::Member;
+use crate::names;
+use anhkhovet::Located;
+use serde_json::{json, Value};
+use std::iter::once;
+use std::ops::Range;
+use std::path::PathBuf;
+use std::sync::Arc;
+
+const OTHERS_ANSWER: &str =
+    "so there is no answer for the whole disk; `anhkhovet sector` and `anhkhovet read` answer for the other extents";
+
+pub struct Split {
+    pub disk: Described,
+    /// In the order of their sectors, each with the number of its file.
+    members: Vec<(Member, usize)>,
+    /// The descriptor, then the files of these extents.
+    files: Files,
+}
+
+impl Split {
+    /// With the files of all extents.
+    pub fn whole(disk: Described) -> Result<Split, Failure> {
+        let all = 0..disk.extents.len();
+        Split::of(disk, all)
+    }
+
+    /// With the file of the extent alone that holds a sector: no other one is judged, nor need it be there.
+    pub fn at(disk: Described, sector: u64) -> Result<Split, Failure> {
+        match anhkhovet::find(&disk.extents, sector) {
+            Ok(extent) => Split::of(disk, extent..extent + 1),
+            Err(why) => {
+                let mut refusal = Refusal::new(why, Some(&disk.file.path));
+                let end: u64 = disk.extents.iter().map(|extent| extent.sectors).sum();
+                refusal.detail = format!("the last sector is {}", end - 1);
+                Err(Failure::Refused(refusal))
+            }
+        }
+    }
+
+    fn of(disk: Described, extents: Range<usize>) -> Result<Split, Failure> {
+        let mut files = vec![Arc::clone(&disk.file)];
+        let mut members = Vec::new();
+        for extent in extents {
+            let member = Member::open(&disk, extent).map_err(disk.blamed(extent))?;
+            let own = member.files();
+            members.push((member, files.len()));
+            files.extend(own);
+        }
+        Ok(Split {
+            disk,
+            members,
+            files,
+        })
+    }
+
+    pub fn files(&self) -> Files {
+        self.files.clone()
+    }
+
+    pub fn same(&self) -> Result<(), Failure> {
+        same(&self.files)
+    }
+
+    /// The paths of the descriptor and of all files that it names.
+    pub fn paths(&self) -> Vec<PathBuf> {
+        let extents = (0..self.disk.extents.len()).filter_map(|extent| self.disk.path(extent));
+        let descriptor = self.disk.file.path.clone();
+        once(descriptor).chain(extents).collect()
+    }
+
+    /// Judges each extent, once: then each sector has an answer, and the files are asked one by one.
+    pub fn grains(&mut self) -> Result<Grains, Failure> {
+        let alone = self.members.len() == 1;
+        for (member, _) in &mut self.members {
+            let judged = member.judge(&self.disk).map_err(|mut failure| {
+                if let (Failure::Refused(refusal), false) = (&mut failure, alone) {
+                    refusal.detail = OTHERS_ANSWER.to_string();
+                }
+                failure
+            });
+            judged.map_err(self.disk.blamed(member.number))?;
+        }
+        let cut = |(member, _): &(Member, usize)| (member.sectors, member.grain_size());
+        let extents: Vec<_> = self.members.iter().map(cut).collect();
+        Ok(Grains::of_extents(&extents))
+    }
+
+    /// Why there are no digests of grains.
+    pub fn without_grains(&self) -> Failure {
+        Failure::Misused(
+            self.disk.file.path.clone(),
+            "the disk has no grains: for `--grain` its images need one grain size, at whose multiples each extent begins",
+        )
+    }
+
+    /// The place, among these extents, of the one that holds a sector.
+    fn holding(&self, sector: u64) -> usize {
+        let after = |(member, _): &(Member, usize)| member.first <= sector;
+        self.members.partition_point(after).saturating_sub(1)
+    }
+
+    /// Where a sector of these extents comes from; the layer is the extent.
+    pub fn locate(&mut self, sector: u64) -> Result<Located, Failure> {
+        let at = self.holding(sector);
+        let (member, _) = &mut self.members[at];
+        let extent = member.number;
+        let found = member.locate(&self.disk, sector);
+        Ok(Located {
+            layer: extent as u64,
+            source: found.map_err(self.disk.blamed(extent))?,
+        })
+    }
+
+    /// Where the bytes of `sectors` from `first` on are, all of them of one grain, with this source.
+    pub fn place(&self, found: &Located, first: u64, sectors: u64) -> Place {
+        let (member, file) = &self.members[self.holding(first)];
+        Place {
+            file: *file,
+            bytes: member.place(found.source, first, sectors),
+        }
+    }
+
+    /// All extents in words: the type, the grain size where it is an image, the file.
+    pub fn lines(&self) -> String {
+        let line = |(member, _): &(Member, usize)| {
+            let number = member.number;
+            let kind = self.disk.extents[number].kind.word();
+            let size = match member.grain_size() {
+                Some(size) => format!(", grain size {size}"),
+                None => String::new(),
+            };
+            let file = match self.disk.path(number) {
+                Some(path) => format!(": {}", names::name(&path)),
+                None => String::new(),
+            };
+            format!("extent {number} ({kind}{size}){file}\n")
+        };
+        self.members.iter().map(line).collect()
+    }
+
+    /// The members `extents` and `file`, the descriptor.
+    pub fn tell_files(&self, object: &mut Object) -> Result<(), Failure> {
+        let extent = |(member, _): &(Member, usize)| {
+            let mut object = self.disk.object(member.number);
+            if let Some(size) = member.grain_size() {
+                object["grain_size"] = json!(size);
+            }
+            object
+        };
+        let extents: Vec<Value> = self.members.iter().map(extent).collect();
+        object.member("extents", &extents)?;
+        names::file(object, &self.disk.file.path)
+    }
+}
