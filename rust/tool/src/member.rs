@@ -47,6 +47,10 @@ impl Member {
         })
     }
 
+    pub fn holds(&self, sector: u64) -> bool {
+        self.first <= sector && sector - self.first < self.sectors
+    }
+
     pub fn files(&self) -> Files {
         self.file.as_ref().map_or_else(Files::new, Layers::files)
     }

@@ -22,6 +22,8 @@ pub struct Split {
     pub disk: Described,
     /// In the order of their sectors, each with the number of its file.
     members: Vec<(Member, usize)>,
+    /// The place among them of the one that held the last sector.
+    near: usize,
     /// The descriptor, then the files of these extents.
     files: Files,
 }
@@ -58,6 +60,7 @@ impl Split {
         Ok(Split {
             disk,
             members,
+            near: 0,
             files,
         })
     }
@@ -104,6 +107,9 @@ impl Split {
 
     /// The place, among these extents, of the one that holds a sector.
     fn holding(&self, sector: u64) -> usize {
+        if self.members[self.near].0.holds(sector) {
+            return self.near;
+        }
         let after = |(member, _): &(Member, usize)| member.first <= sector;
         self.members.partition_point(after).saturating_sub(1)
     }
@@ -111,6 +117,7 @@ impl Split {
     /// Where a sector of these extents comes from; the layer is the extent.
     pub fn locate(&mut self, sector: u64) -> Result<Located, Failure> {
         let at = self.holding(sector);
+        self.near = at;
         let (member, _) = &mut self.members[at];
         let extent = member.number;
         let found = member.locate(&self.disk, sector);
