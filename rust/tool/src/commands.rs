@@ -25,7 +25,7 @@ fn files(about: &'static str) -> Arg {
 }
 
 fn layers() -> Arg {
-    files("The image, or the layers of a chain, base first")
+    files("The image, the descriptor of a disk of several files, or the layers of a chain, base first")
 }
 
 fn number() -> Arg {
@@ -76,17 +76,16 @@ pub fn command() -> Command {
 }
 
 fn judging(command: Command) -> Command {
-    let images = || files("The images, each judged by itself");
     command
         .subcommand(
             subcommand("check")
                 .about("Says whether images meet every layout rule")
-                .arg(images()),
+                .arg(files("The images and descriptors, each judged by itself")),
         )
         .subcommand(
             subcommand("survey")
                 .about("Counts the grains of images by kind, with totals and a tally of refusals")
-                .arg(images()),
+                .arg(files("The images, each judged by itself")),
         )
 }
 
@@ -94,7 +93,7 @@ fn reading(command: Command) -> Command {
     command
         .subcommand(
             subcommand("sector")
-                .about("Says where a sector comes from: layer, kind, file sector, byte offset")
+                .about("Says where a sector comes from: layer or extent, kind, file sector, byte offset")
                 .arg(layers())
                 .arg(number()),
         )

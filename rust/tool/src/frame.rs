@@ -74,4 +74,7 @@ fn joined(mut parts: Vec<(u64, u64)>) -> Vec<(u64, u64)> {
 }
 
 #[cfg(test)]
+pub mod made;
+
+#[cfg(test)]
 mod tests;

@@ -168,3 +168,6 @@ impl Split {
         names::file(object, &self.disk.file.path)
     }
 }
+
+#[cfg(test)]
+mod tests;

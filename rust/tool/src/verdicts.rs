@@ -2,6 +2,7 @@
 
 use crate::described::Described;
 use crate::failure::{Failure, Status};
+use crate::files::same;
 use crate::grains::Grains;
 use crate::member::Member;
 use crate::names::name;
@@ -18,12 +19,19 @@ pub struct Verdicts {
     all: Vec<Verdict>,
 }
 
-fn one(disk: &Described, extent: usize) -> Verdict {
-    let judged = Member::open(disk, extent).and_then(|mut member| {
-        member.judge(disk)?;
+fn judged(disk: &Described, extent: usize) -> Result<Member, Failure> {
+    let mut member = Member::open(disk, extent)?;
+    member.judge(disk)?;
+    Ok(member)
+}
+
+/// The verdict on an extent, if its file is still what was judged.
+fn verdict(disk: &Described, (extent, judged): (usize, Result<Member, Failure>)) -> Verdict {
+    let size = judged.and_then(|member| {
+        same(&member.files())?;
         Ok(member.grain_size())
     });
-    judged.map_err(disk.blamed(extent))
+    size.map_err(disk.blamed(extent))
 }
 
 fn told(verdict: &Verdict) -> String {
@@ -46,8 +54,11 @@ fn put(object: &mut Value, verdict: &Verdict) {
 impl Verdicts {
     /// Each extent is judged, whatever is wrong with another.
     pub fn of(disk: Described) -> Result<Verdicts, Failure> {
-        let all = (0..disk.extents.len()).map(|extent| one(&disk, extent));
-        let all = all.collect();
+        let extents = (0..disk.extents.len()).map(|extent| judged(&disk, extent));
+        let extents: Vec<_> = extents.collect();
+        // All of them are accepted at one time, or the disk is not.
+        let all = extents.into_iter().enumerate();
+        let all = all.map(|judged| verdict(&disk, judged)).collect();
         disk.file.same()?;
         Ok(Verdicts { disk, all })
     }

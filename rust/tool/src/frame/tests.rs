@@ -1,12 +1,10 @@
 //! Own bytes answer as the whole file does: check, survey, lookups, places and chains of images that are whole, cut and damaged.
 
-mod made;
-
 use crate::failure::Failure;
 use crate::files::Layers;
+use crate::frame::made::image;
 use crate::survey::counted;
 use anhkhovet::{ChainRefusal, Group, Refusal, Source};
-use made::image;
 use std::fs;
 use std::path::{Path, PathBuf};
 
