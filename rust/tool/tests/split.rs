@@ -103,7 +103,7 @@ fn mapped(runs: &Value, sector: u64) -> Value {
     let all = runs["runs"].as_array().expect("runs");
     let number = |run: &Value, key: &str| run[key].as_u64();
     let held = |run: &&Value| number(run, "first") <= Some(sector);
-    let mut run = all.iter().filter(held).last().expect("a run").clone();
+    let mut run = all.iter().rev().find(held).expect("a run").clone();
     let inside = sector - number(&run, "first").expect("a first sector");
     run["sector"] = sector.into();
     match (run["kind"].as_str(), number(&run, "file_sector")) {
