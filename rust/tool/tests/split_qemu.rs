@@ -77,6 +77,7 @@ fn raw_is_read_right(folder: &Folder, sector: u64) {
 #[test]
 fn split_disks_of_qemu_img() {
     if !there("qemu-img") || !there("qemu-io") {
+        assert!(std::env::var_os("ANHKHOVET_QEMU_IMG").is_none());
         println!("NOT RUN: disks of qemu-img, since it is not here");
         return;
     }
