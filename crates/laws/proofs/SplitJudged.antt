@@ -25,7 +25,8 @@ pub record Served (answer : SplitAnswer) : Type 0 where
   pub found : answer ≡ Found at
 
 -- sector o is served; p is another of the line's sectors
-module _ (s : List ℕ) (e : Extent) (i o p : ℕ) (low : p < e .sectors) (a : LayerSource) (found : inExtent s e i o ≡ Found a) where
+module _ (s : List ℕ) (e : Extent) (i o p : ℕ) (low : p < e .sectors) (a : LayerSource)
+    (found : inExtent s e i o ≡ Found a) where
   -- the same answer, but for the sector
   plain-too : inPlain s e i o ≡ Found a → Served (inPlain s e i p)
   unfolding inPlain
