@@ -42,6 +42,7 @@ fn numbers_of(refusal: Refusal) -> Numbers
         Refusal::LayersDiffer => Numbers(22, 0),
         Refusal::NotCollapsible => Numbers(23, 0),
         Refusal::LayerLengths => Numbers(24, 0),
+        Refusal::StillOpen => Numbers(27, 0),
     }
 }
 
@@ -147,6 +148,7 @@ pub fn head_of(a: HeaderAnswer) -> Head
             grain_size: h.grain_size,
             descriptor: h.descriptor,
             descriptor_sectors: h.descriptor_sectors,
+            dirty: h.dirty,
         },
         HeaderAnswer::Refused(refusal) => {
             let told = numbers_of(refusal);
@@ -157,6 +159,7 @@ pub fn head_of(a: HeaderAnswer) -> Head
                 grain_size: 0,
                 descriptor: 0,
                 descriptor_sectors: 0,
+                dirty: 0,
             }
         }
     }

@@ -2,7 +2,7 @@
 ghost use mathlib.Core.Path.{_≡_};
 ghost use lib.ListN.{length};
 ghost use Rattle.format.specs.Check.{check};
-ghost use Rattle.format.specs.Collapse.{collapsed, ifAccepted, notCollapsible, writtenIfRoom, normal, normalOutput};
+ghost use Rattle.format.specs.Collapse.{collapsed, ifAccepted, notCollapsible, stillOpen, writtenIfRoom, normal, normalOutput};
 ghost use Rattle.format.specs.Collapse.{collapseFrom, collapse, collapseOutput};
 ghost use Rattle.layers.specs.TwoLayers.{layered, imageOf, lengthOf, Layers};
 ghost use Rattle.accept.specs.AcceptedHeader.{Checked};
@@ -16,6 +16,13 @@ fn not_collapsible(h: Header) -> bool
     ensures { λ r. ⌜ r ≡ notCollapsible h ⌝ }
 {
     h.cowd | h.packed
+}
+
+// Any number but 0, as some writers have others than 1.
+fn still_open(h: Header) -> bool
+    ensures { λ r. ⌜ r ≡ stillOpen h ⌝ }
+{
+    !(h.dirty == 0)
 }
 
 // 21, or the image written.
@@ -33,7 +40,7 @@ fn write_fitted(lower: &[u8], h: Header, upper: &[u8], k: Header, out: &mut [u8]
     CollapseAnswer::Written(long)
 }
 
-// Of two accepted images: 23, 22, 21.
+// Of two accepted images: 23, 22, 27, 21.
 fn collapse_layers(
     lower: &[u8],
     h: Header,
@@ -51,6 +58,9 @@ fn collapse_layers(
     }
     if header::unlike(h, k) {
         return CollapseAnswer::Refused(Refusal::LayersDiffer);
+    }
+    if still_open(h) | still_open(k) {
+        return CollapseAnswer::Refused(Refusal::StillOpen);
     }
     write_fitted(lower, h, upper, k, &mut *out)
 }

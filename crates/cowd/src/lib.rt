@@ -25,6 +25,7 @@ fn fields(image: &[u8]) -> CowdFields
         grain_size: base::u32_at(image, 16),
         directory: base::u32_at(image, 20),
         directory_entries: base::u32_at(image, 24),
+        dirty: base::u32_at(image, 1648),
     }
 }
 
@@ -82,6 +83,7 @@ fn header(k: CowdFields) -> Header
         one_is_zero: false,
         packed: false,
         footer: false,
+        dirty: k.dirty,
     }
 }
 

@@ -8,7 +8,7 @@ use Rattle.format.specs.Answers.{number, place, verdict, located, chaine
 use Rattle.format.specs.declared.Refusal.{Refusal}
 use Rattle.format.specs.declared.Refusal.the-variants.{TooShort, Magic, Version, Newline, Flags, Sizes, Footer, Misplaced}
 use Rattle.format.specs.declared.Refusal.the-variants.{GrainPast, Marker, CopiesDiffer, SharedSector, SectorPast}
-use Rattle.format.specs.declared.Refusal.the-variants.{TooLittleRoom, LayersDiffer, NotCollapsible, LayerLengths}
+use Rattle.format.specs.declared.Refusal.the-variants.{TooLittleRoom, LayersDiffer, NotCollapsible, LayerLengths, StillOpen}
 use Rattle.format.specs.declared.Source.{Source}
 use Rattle.format.specs.declared.Source.the-variants.{Absent, Zero, Stored, Packed}
 use Rattle.format.specs.declared.CheckAnswer.{CheckAnswer}
@@ -50,7 +50,8 @@ refusalOf n p =
     (pick (eqb n 12) SharedSector
     (pick (eqb n 20) SectorPast
     (pick (eqb n 21) TooLittleRoom
-    (pick (eqb n 22) LayersDiffer (pick (eqb n 23) NotCollapsible LayerLengths)))))))))))))))
+    (pick (eqb n 22) LayersDiffer
+    (pick (eqb n 23) NotCollapsible (pick (eqb n 24) LayerLengths StillOpen))))))))))))))))
 
 -- a refusal has its number and place, and the number is not 0
 record Told (r : Refusal) : Type 0 where
@@ -76,6 +77,7 @@ told TooLittleRoom = record { back = refl; some = refl }
 told LayersDiffer = record { back = refl; some = refl }
 told NotCollapsible = record { back = refl; some = refl }
 told LayerLengths = record { back = refl; some = refl }
+told StillOpen = record { back = refl; some = refl }
 
 pub refusal-alike : (r q : Refusal) → number r ≡ number q → place r ≡ place q → r ≡ q
 refusal-alike r q e p = sym (told r .back) ∙ rw (e, p) (told q .back)

@@ -3,7 +3,7 @@ use Prim.Native.Nat.{ℕ}
 use Rattle.format.specs.declared.Refusal.{Refusal}
 use Rattle.format.specs.declared.Refusal.the-variants.{TooShort, Magic, Version, Newline, Flags, Sizes, Footer, Misplaced}
 use Rattle.format.specs.declared.Refusal.the-variants.{GrainPast, Marker, CopiesDiffer, SharedSector, SectorPast}
-use Rattle.format.specs.declared.Refusal.the-variants.{TooLittleRoom, LayersDiffer, NotCollapsible, LayerLengths}
+use Rattle.format.specs.declared.Refusal.the-variants.{TooLittleRoom, LayersDiffer, NotCollapsible, LayerLengths, StillOpen}
 use Rattle.format.specs.declared.Source.{Source}
 use Rattle.format.specs.declared.Source.the-variants.{Absent, Zero, Stored, Packed}
 use Rattle.format.specs.declared.HeaderAnswer.{HeaderAnswer}
@@ -46,6 +46,7 @@ number TooLittleRoom = 21
 number LayersDiffer = 22
 number NotCollapsible = 23
 number LayerLengths = 24
+number StillOpen = 27
 
 -- the grain for 9 and 10 (the lowest one at fault; in a lookup the sector's own), else 0
 abbrev pub place : Refusal → ℕ
@@ -66,8 +67,10 @@ place TooLittleRoom = 0
 place LayersDiffer = 0
 place NotCollapsible = 0
 place LayerLengths = 0
+place StillOpen = 0
 
--- ---- a header alone: the descriptor's numbers as it has them, 0 for COWD. They are not judged: 8 is no rule of the header
+-- ---- a header alone: the descriptor's numbers as it has them, 0 for COWD, and the dirty number. They are not judged: 8 and 27 are
+-- no rules of the header
 abbrev pub headerNumbers : HeaderAnswer → Head
 headerNumbers (Known h) = record {
   number = 0;
@@ -76,6 +79,7 @@ headerNumbers (Known h) = record {
   «grain_size» = h .«grain_size»;
   descriptor = h .descriptor;
   «descriptor_sectors» = h .«descriptor_sectors»;
+  dirty = h .dirty;
 }
 headerNumbers (headerRefused r) = record {
   number = number r;
@@ -84,6 +88,7 @@ headerNumbers (headerRefused r) = record {
   «grain_size» = 0;
   descriptor = 0;
   «descriptor_sectors» = 0;
+  dirty = 0;
 }
 
 -- ---- the check: capacity and grain size

@@ -1,8 +1,8 @@
 -- Collapse of a lower and an upper image, and the normal form of one.
 use Prim.Native.Nat.{ℕ}
 use mathlib.Core.List.{List}
-use mathlib.Core.Bool.{Bool, _||_}
-use lib.Dec.{ltb}
+use mathlib.Core.Bool.{Bool, not, _||_}
+use lib.Dec.{ltb, eqb}
 use lib.ListN.{length}
 use Rattle.base.specs.Pick.{pick}
 use Rattle.base.specs.Bytes.{over}
@@ -12,7 +12,7 @@ use Rattle.format.specs.Chain.{unlike}
 use Rattle.format.specs.Grains.{Map, merge, grainMap}
 use Rattle.format.specs.Layout.{layoutOf, layoutLength}
 use Rattle.format.specs.declared.Header.{Header}
-use Rattle.format.specs.declared.Refusal.the-variants.{TooLittleRoom, LayersDiffer, NotCollapsible}
+use Rattle.format.specs.declared.Refusal.the-variants.{TooLittleRoom, LayersDiffer, NotCollapsible, StillOpen}
 use Rattle.format.specs.declared.CheckAnswer.{CheckAnswer}
 use Rattle.format.specs.declared.CheckAnswer.the-variants.{Accepted, Refused as checkRefused}
 use Rattle.format.specs.declared.CollapseAnswer.{CollapseAnswer}
@@ -46,25 +46,32 @@ ifAccepted (Accepted capacity grainSize) a = a
 abbrev pub notCollapsible : Header → Bool
 notCollapsible h = h .cowd || h .packed
 
+-- 27: the disk was still open, whatever number but 0 says so
+abbrev pub stillOpen : Header → Bool
+stillOpen h = not (eqb (h .dirty) 0)
+
 -- 21: the output is too short
 unfoldable pub writtenIfRoom : ℕ → ℕ → CollapseAnswer
 writtenIfRoom room long = pick (ltb room long) (Refused TooLittleRoom) (Written long)
 
--- where the image is accepted: 23, 21
+-- where the image is accepted: 23, 27, 21
 unfoldable pub normalFrom : Header → Map → ℕ → CollapseAnswer
-normalFrom h m room = pick (notCollapsible h) (Refused NotCollapsible) (writtenIfRoom room (laidLength h m))
+normalFrom h m room =
+    pick (notCollapsible h) (Refused NotCollapsible)
+    (pick (stillOpen h) (Refused StillOpen) (writtenIfRoom room (laidLength h m)))
 
--- the check, 23, 21
+-- the check, 23, 27, 21
 abbrev pub normal : List ℕ → ℕ → CollapseAnswer
 normal s room = ifAccepted (check s) (normalFrom (headerOf s) (mapOf s) room)
 
--- where both images are accepted: 23, 22, 21
+-- where both images are accepted: 23, 22, 27, 21
 unfoldable pub collapseFrom : Header → Header → Map → ℕ → CollapseAnswer
 collapseFrom lower upper m room =
     pick (notCollapsible lower || notCollapsible upper) (Refused NotCollapsible)
-    (pick (unlike lower upper) (Refused LayersDiffer) (writtenIfRoom room (laidLength lower m)))
+    (pick (unlike lower upper) (Refused LayersDiffer)
+    (pick (stillOpen lower || stillOpen upper) (Refused StillOpen) (writtenIfRoom room (laidLength lower m))))
 
--- the lower's check, the upper's check, 23, 22, 21
+-- the lower's check, the upper's check, 23, 22, 27, 21
 abbrev pub collapse : List ℕ → List ℕ → ℕ → CollapseAnswer
 collapse lower upper room =
     ifAccepted (check lower)

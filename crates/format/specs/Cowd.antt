@@ -15,7 +15,7 @@ use Rattle.format.specs.declared.Refusal.the-variants.{Version, Sizes}
 abbrev pub cowdMagic : List ℕ
 cowdMagic = 0x43 ∷ 0x4f ∷ 0x57 ∷ 0x44 ∷ []
 
--- offset and size of each field. Flags (8,4) are not judged
+-- offset and size of each field. Flags (8,4) are not judged; nor is dirty
 unfoldable pub cowdFields : List ℕ → CowdFields
 cowdFields s =
     record {
@@ -24,6 +24,7 @@ cowdFields s =
       «grain_size» = leAt s 16 4;
       directory = leAt s 20 4;
       «directory_entries» = leAt s 24 4;
+      dirty = leAt s 1648 4;
     }
 
 -- 3: version is 1

@@ -41,6 +41,7 @@ kdmvHeader k directory =
       «one_is_zero» = kdmvOneIsZero k;
       packed = flagSet (k .flags) 0x10000;
       footer = atEnd k;
+      dirty = k .dirty;
     }
 
 -- a COWD image: 4,096 entries a table, which takes 32 sectors. The stored count gives the directory's area
@@ -61,6 +62,7 @@ cowdHeader k =
       «one_is_zero» = false;
       packed = false;
       footer = false;
+      dirty = k .dirty;
     }
 
 -- the footer's directory sector counts, where there is a footer

@@ -21,7 +21,7 @@ kdmvMagic = 0x4b ∷ 0x44 ∷ 0x4d ∷ 0x56 ∷ []
 abbrev pub newlineBytes : List ℕ
 newlineBytes = 0x0a ∷ 0x20 ∷ 0x0d ∷ 0x0a ∷ []
 
--- offset and size of each field. Overhead (64,8), dirty (72,1) and padding (79,433) are not judged
+-- offset and size of each field. Overhead (64,8) and padding (79,433) are not judged; nor is dirty, which 27 asks for
 unfoldable pub kdmvFields : List ℕ → KdmvFields
 kdmvFields s =
     record {
@@ -34,6 +34,7 @@ kdmvFields s =
       «entries_per_table» = leAt s 44 4;
       redundant = leAt s 48 8;
       directory = leAt s 56 8;
+      dirty = leAt s 72 1;
       newline = sameAt s 73 newlineBytes;
       compression = leAt s 77 2;
     }

@@ -11,6 +11,7 @@ pub struct KdmvFields {
     pub entries_per_table: u64,
     pub redundant: u64,
     pub directory: u64,
+    pub dirty: u64,
     // Whether the newline bytes are 0a 20 0d 0a.
     pub newline: bool,
     pub compression: u64,
@@ -23,6 +24,7 @@ pub struct CowdFields {
     pub grain_size: u64,
     pub directory: u64,
     pub directory_entries: u64,
+    pub dirty: u64,
 }
 
 // What a call has to know of a header that was judged, of either kind. It is made in one place.
@@ -44,9 +46,11 @@ pub struct Header {
     pub one_is_zero: bool,
     pub packed: bool,
     pub footer: bool,
+    // 0 for a disk that was shut down. It decides nothing but 27.
+    pub dirty: u64,
 }
 
-// Why a call on images refuses, in the order of the numbers 1 to 12, 20 to 24. A case holds the grain that is its place.
+// Why a call on images refuses, in the order of the numbers 1 to 12, 20 to 24, 27. A case holds the grain that is its place.
 pub enum Refusal {
     TooShort,
     Magic,
@@ -65,6 +69,7 @@ pub enum Refusal {
     LayersDiffer,
     NotCollapsible,
     LayerLengths,
+    StillOpen,
 }
 
 // What judging a part of an image finds.
@@ -204,7 +209,7 @@ pub struct Surveyed {
     pub packed: u64,
 }
 
-// A header judged alone, with the descriptor's numbers as it has them.
+// A header judged alone, with the descriptor's and the dirty number as it has them.
 #[repr(C)]
 pub struct Head {
     pub number: u64,
@@ -213,6 +218,7 @@ pub struct Head {
     pub grain_size: u64,
     pub descriptor: u64,
     pub descriptor_sectors: u64,
+    pub dirty: u64,
 }
 
 // The bytes of an image that the grain reader hands back: both 0 where there are none.

@@ -44,6 +44,7 @@ fn fields(image: &[u8]) -> KdmvFields
         entries_per_table: base::u32_at(image, 44),
         redundant: base::u64_at(image, 48),
         directory: base::u64_at(image, 56),
+        dirty: image[72] as u64,
         newline: base::same_at(image, 73, b"\n \r\n"),
         compression: base::u16_at(image, 77),
     }
@@ -139,6 +140,7 @@ fn header(k: KdmvFields, directory: u64) -> Header
         one_is_zero: one_is_zero(k),
         packed: k.flags / COMPRESSED % 2 == 1,
         footer: k.directory == ALL_ONES,
+        dirty: k.dirty,
     }
 }
 

@@ -17,8 +17,8 @@ use Rattle.format.specs.Check.{check}
 use Rattle.format.specs.Chain.{unlike}
 use Rattle.format.specs.Grains.{Map, merge}
 use Rattle.format.specs.Layout.{layoutLength}
-use Rattle.format.specs.Collapse.{mapOf, laidLength, normalForm, collapsed, ifAccepted, notCollapsible, writtenIfRoom}
-use Rattle.format.specs.Collapse.{normalFrom, normal, collapseFrom, collapse, output, normalOutput, collapseOutput}
+use Rattle.format.specs.Collapse.{mapOf, laidLength, normalForm, collapsed, ifAccepted, notCollapsible, stillOpen}
+use Rattle.format.specs.Collapse.{writtenIfRoom, normalFrom, normal, collapseFrom, collapse, output, normalOutput, collapseOutput}
 use Rattle.format.specs.declared.Refusal.{Refusal}
 use Rattle.format.specs.declared.CheckAnswer.{CheckAnswer}
 use Rattle.format.specs.declared.CheckAnswer.the-variants.{Accepted, Refused as unaccepted}
@@ -50,9 +50,9 @@ written-long room n long e =
     (q, rw q (ltb-false _ _ (r .0)))
 
 pub own-layer : (s : List ℕ) (c size : ℕ) → check s ≡ Accepted c size → notCollapsible (headerOf s) ≡ false
-    → Layer (headerOf s .capacity) (headerOf s .«grain_size») s
-own-layer s c size e n =
-    let r = accepted-sound s c size e in record { accepted = rw (r .1, r .2) at e; collapsible = n }
+    → stillOpen (headerOf s) ≡ false → Layer (headerOf s .capacity) (headerOf s .«grain_size») s
+own-layer s c size e n o =
+    let r = accepted-sound s c size e in record { accepted = rw (r .1, r .2) at e; collapsible = n; clean = o }
 
 -- the length of a layout of a layer's sizes
 laid-length : {c size : ℕ} {s : List ℕ} → Layer c size s → (m : Map) → laidLength (headerOf s) m ≡ layoutLength c size m
@@ -67,6 +67,7 @@ layers-collapse {lower = lower} {upper = upper} p q room =
     rw (p .accepted, q .accepted)
     (pick-else _ _ _ (rw (p .collapsible, q .collapsible))
     ∙ pick-else _ _ _ (like _ _ (capacity-is p ∙ sym (capacity-is q)) (size-is p ∙ sym (size-is q)))
+    ∙ pick-else _ _ _ (rw (p .clean, q .clean))
     ∙ ap (writtenIfRoom room) (laid-length p (merge (mapOf lower) (mapOf upper)) ∙ sym (collapsed-length p q)))
 
 module _ (lower upper : List ℕ) (room long : ℕ) (e : collapse lower upper room ≡ Written long) where
@@ -83,8 +84,10 @@ module _ (lower upper : List ℕ) (room long : ℕ) (e : collapse lower upper ro
       let both = or-no (notCollapsible (headerOf lower)) (notCollapsible (headerOf upper)) (n .0) in
       let u = written-past (unlike (headerOf lower) (headerOf upper)) _ _ long (n .1) in
       let same = alike (headerOf lower) (headerOf upper) (u .0) in
-      let p = own-layer lower (a .0) (a .1) (a .2) (both .0) in
-      let q = rw (← same .0, ← same .1) at (own-layer upper (b .0) (b .1) (b .2) (both .1)) in
+      let o = written-past (stillOpen (headerOf lower) || stillOpen (headerOf upper)) _ _ long (u .1) in
+      let shut = or-no (stillOpen (headerOf lower)) (stillOpen (headerOf upper)) (o .0) in
+      let p = own-layer lower (a .0) (a .1) (a .2) (both .0) (shut .0) in
+      let q = rw (← same .0, ← same .1) at (own-layer upper (b .0) (b .1) (b .2) (both .1) (shut .1)) in
       let f = written-long room _ long (sym (layers-collapse p q room) ∙ e) in
       (p, q, f .0, f .1)
 
@@ -100,7 +103,7 @@ pub layer-normal : {c size : ℕ} {s : List ℕ} → Layer c size s → (room : 
     ≡ writtenIfRoom room (length (normalForm s))
 unfolding ifAccepted normalFrom
 layer-normal {s = s} p room =
-    rw (p .accepted) (pick-else _ _ _ (p .collapsible)
+    rw (p .accepted) (pick-else _ _ _ (p .collapsible) ∙ pick-else _ _ _ (p .clean)
     ∙ ap (writtenIfRoom room) (laid-length p (mapOf s) ∙ sym (normal-length p)))
 
 module _ (s : List ℕ) (room long : ℕ) (e : normal s room ≡ Written long) where
@@ -111,7 +114,8 @@ module _ (s : List ℕ) (room long : ℕ) (e : normal s room ≡ Written long) w
   normal-layer =
       let a = was-accepted (check s) _ long e in
       let n = written-past (notCollapsible (headerOf s)) _ _ long (a .3) in
-      let p = own-layer s (a .0) (a .1) (a .2) (n .0) in
+      let o = written-past (stillOpen (headerOf s)) _ _ long (n .1) in
+      let p = own-layer s (a .0) (a .1) (a .2) (n .0) (o .0) in
       let f = written-long room _ long (sym (layer-normal p room) ∙ e) in
       (p, f .0, f .1)
 

@@ -8,8 +8,8 @@ use Rattle.base.specs.Pick.{pick}
 use Rattle.format.specs.Header.{headerOf}
 use Rattle.format.specs.Check.{check}
 use Rattle.format.specs.Grains.{Map, merge}
-use Rattle.format.specs.Collapse.{mapOf, ifAccepted, notCollapsible, normalFrom, normal, collapseFrom, collapse, normalOutput}
-use Rattle.format.specs.Collapse.{laidOut, output, collapseOutput}
+use Rattle.format.specs.Collapse.{mapOf, ifAccepted, notCollapsible, stillOpen, normalFrom, normal, collapseFrom, collapse}
+use Rattle.format.specs.Collapse.{laidOut, output, normalOutput, collapseOutput}
 use Rattle.format.specs.declared.Header.{Header}
 use Rattle.format.specs.declared.CheckAnswer.{CheckAnswer}
 use Rattle.format.specs.declared.CheckAnswer.the-variants.{Accepted, Refused as unaccepted}
@@ -27,7 +27,7 @@ accepted-self (Accepted c size) x = refl
 
 from-self : (h : Header) (m : Map) (room : ℕ) → collapseFrom h h (merge m m) room ≡ normalFrom h m room
 unfolding collapseFrom normalFrom pick
-from-self h m room = rw (merge-self m, or-self (notCollapsible h), like h h refl refl)
+from-self h m room = rw (merge-self m, or-self (notCollapsible h), like h h refl refl, or-self (stillOpen h))
 
 module _ (s : List ℕ) where
   pub collapse-self : (room : ℕ) → collapse s s room ≡ normal s room

@@ -1,4 +1,4 @@
--- The two layers of the example are accepted, uncompressed KDMV images of capacity 69 and grain size 8.
+-- The two layers of the example are accepted, uncompressed, clean KDMV images of capacity 69 and grain size 8.
 use mathlib.Core.Path.{refl}
 use Rattle.base.specs.Pick.{pick}
 use Rattle.base.specs.Rounding.{powerUpTo}
@@ -18,4 +18,4 @@ use Rattle.laws.specs.ExampleLayers.{filled, lower, upper}
 
 pub layers : (Layer 69 8 lower) × (Layer 69 8 upper)
 unfolding endToEnd filled lower upper pick powerUpTo leAt leBytes sameAt zeros rows grains directoryEntries directorySectors kdmvFields kdmvFault kdmvHeader directoryOf headerOf unlessFault withFooter judgeKdmv judge meaning inTable entryOfGrain grainSectors anyBelow ifThere named redundantTables areas runsPast shares sharesAny meet misplaced lowestFrom copiesDiffer unlessGrain checkApart checkCopies checkGrains checkLayout checkFrom
-layers = (record { accepted = refl; collapsible = refl }, record { accepted = refl; collapsible = refl })
+layers = (record { accepted = refl; collapsible = refl; clean = refl }, record { accepted = refl; collapsible = refl; clean = refl })

@@ -17,12 +17,12 @@ use Rattle.format.specs.Layout.{tableCount, tablesAt, tablesEnd, sectorV, secto
 use Rattle.format.specs.Layout.{tableBytes, gapBytes, grainBytes, layoutLength}
 use Rattle.format.specs.Collapse.{ifAccepted, writtenIfRoom, normalFrom, normal, collapseFrom, collapse, output}
 use Rattle.format.specs.declared.Header.{Header}
-use Rattle.format.specs.declared.Refusal.the-variants.{TooShort, Magic, TooLittleRoom, LayersDiffer, NotCollapsible}
+use Rattle.format.specs.declared.Refusal.the-variants.{TooShort, Magic, TooLittleRoom, LayersDiffer, NotCollapsible, StillOpen}
 use Rattle.format.specs.declared.CheckAnswer.the-variants.{Accepted}
 use Rattle.format.specs.declared.CollapseAnswer.{CollapseAnswer}
 use Rattle.format.specs.declared.CollapseAnswer.the-variants.{Written, Refused}
 use Rattle.laws.specs.Examples.{Example, example, Hold}
-use Rattle.laws.specs.Images.{joined, sizedHeader, streamHeader}
+use Rattle.laws.specs.Images.{joined, sizedHeader, openHeader, streamHeader}
 
 -- grain 0 is zero, grain 1 stored, all others absent
 abbrev grainsOf : List ℕ → Map
@@ -32,7 +32,8 @@ grainsOf bytes (suc (suc g)) = absent
 
 -- a COWD header
 abbrev cowd : Header
-cowd = cowdHeader (record { version = 1; capacity = 16; «grain_size» = 8; directory = 4; «directory_entries» = 1 })
+cowd =
+    cowdHeader (record { version = 1; capacity = 16; «grain_size» = 8; directory = 4; «directory_entries» = 1; dirty = 1 })
 
 -- ---- answers
 abbrev answers : List (Example CollapseAnswer)
@@ -46,9 +47,15 @@ answers =
     ∷ example (normalFrom (streamHeader 1) (grainsOf []) 9999) (Refused NotCollapsible)
     ∷ example (collapseFrom cowd (sizedHeader 16 8) (grainsOf []) 9999) (Refused NotCollapsible)
     ∷ example (collapseFrom (sizedHeader 17 8) (streamHeader 1) (grainsOf []) 9999) (Refused NotCollapsible)
-    -- 22: capacities or grain sizes differ; it comes before 21
+    -- 22: capacities or grain sizes differ; it comes before 27 and 21
     ∷ example (collapseFrom (sizedHeader 16 8) (sizedHeader 17 8) (grainsOf []) 0) (Refused LayersDiffer)
     ∷ example (collapseFrom (sizedHeader 16 8) (sizedHeader 16 16) (grainsOf []) 0) (Refused LayersDiffer)
+    ∷ example (collapseFrom (openHeader 16 8 1) (openHeader 17 8 1) (grainsOf []) 0) (Refused LayersDiffer)
+    -- 27: any number but 0, either one of two; it comes after 23 and before 21
+    ∷ example (normalFrom (openHeader 16 8 1) (grainsOf []) 0) (Refused StillOpen)
+    ∷ example (normalFrom (openHeader 16 8 255) (grainsOf []) 9999) (Refused StillOpen)
+    ∷ example (collapseFrom (openHeader 16 8 2) (sizedHeader 16 8) (grainsOf []) 0) (Refused StillOpen)
+    ∷ example (collapseFrom (sizedHeader 16 8) (openHeader 16 8 1) (grainsOf []) 9999) (Refused StillOpen)
     -- 21: V is 8 and one grain is stored, so 8,192 bytes
     ∷ example (collapseFrom (sizedHeader 16 8) (sizedHeader 16 8) (grainsOf []) 8191) (Refused TooLittleRoom)
     ∷ example (collapseFrom (sizedHeader 16 8) (sizedHeader 16 8) (grainsOf []) 8192) (Written 8192)

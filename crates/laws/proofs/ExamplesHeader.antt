@@ -54,6 +54,7 @@ fields version flags capacity grainSize entries redundant directory newline comp
       «entries_per_table» = entries;
       redundant = redundant;
       directory = directory;
+      dirty = 1;
       newline = newline;
       compression = compression;
     }
@@ -109,7 +110,14 @@ kdmvRules =
 abbrev cowdRule : ℕ → ℕ → ℕ → ℕ → Fault
 cowdRule version capacity grainSize stored =
     cowdFault
-    (record { version = version; capacity = capacity; «grain_size» = grainSize; directory = 4; «directory_entries» = stored })
+    (record {
+      version = version;
+      capacity = capacity;
+      «grain_size» = grainSize;
+      directory = 4;
+      «directory_entries» = stored;
+      dirty = 1;
+    })
 
 abbrev cowdRules : List (Example (List Fault))
 cowdRules =
@@ -152,7 +160,8 @@ kdmvFull =
     ∷ leBytes 4 512
     ∷ leBytes 8 0x3132333435363738
     ∷ leBytes 8 0x4142434445464748
-    ∷ replicate 9 0x55
+    ∷ replicate 8 0x55
+    ∷ leBytes 1 0xf1
     ∷ (0x0a ∷ 0x20 ∷ 0x0d ∷ 0x0a ∷ 0x01 ∷ 0x00 ∷ [])
     ∷ replicate 433 0x66
     ∷ [])
@@ -167,7 +176,9 @@ cowdFull =
     ∷ leBytes 4 0x800
     ∷ leBytes 4 0x51525354
     ∷ leBytes 4 0x61626364
-    ∷ replicate 2020 0x88
+    ∷ replicate 1620 0x88
+    ∷ leBytes 4 0x71727374
+    ∷ replicate 396 0x88
     ∷ [])
 
 abbrev told : List (Example HeaderAnswer)
@@ -190,6 +201,7 @@ told =
       «one_is_zero» = true;
       packed = true;
       footer = false;
+      dirty = 0xf1;
     }))
     -- the directory takes the sectors of its stored count, 0x61626364 / 128 rounded up
     ∷ example (judge cowdFull)
@@ -209,6 +221,7 @@ told =
       «one_is_zero» = false;
       packed = false;
       footer = false;
+      dirty = 0x71727374;
     }))
     ∷ []
 

@@ -95,4 +95,4 @@ module _ {c size : ℕ} (z : Sizes c size) (m : Map) where
     pub layout-layer : Layer c size (layoutOf c size m)
     layout-layer =
         let h = header-laid z m in
-        record { accepted = rw h at (accepted-complete (layoutOf c size m) layout-accepted); collapsible = rw h }
+        record { accepted = rw h at (accepted-complete (layoutOf c size m) layout-accepted); collapsible = rw h; clean = rw h }

@@ -42,6 +42,7 @@ laidFields c size =
       «entries_per_table» = 512;
       redundant = 0;
       directory = 1;
+      dirty = 0;
       newline = true;
       compression = 0;
     }
@@ -64,6 +65,7 @@ laidHeader c size =
       «one_is_zero» = true;
       packed = false;
       footer = false;
+      dirty = 0;
     }
 
 module _ {c size : ℕ} (z : Sizes c size) where
@@ -85,9 +87,10 @@ module _ {c size : ℕ} (z : Sizes c size) where
         let perTable : leAt s 44 4 ≡ 512 = read-number 4 512 (field 7 (lit< tt)) (lit< tt) in
         let redundant : leAt s 48 8 ≡ 0 = read-number 8 0 (field 8 (lit< tt)) (lit< tt) in
         let directory : leAt s 56 8 ≡ 1 = read-number 8 1 (field 9 (lit< tt)) (lit< tt) in
+        let dirty : leAt s 72 1 ≡ 0 = read-number 1 0 (field 11 (lit< tt)) (lit< tt) in
         let newline : sameAt s 73 newlineBytes ≡ true = read-same newlineBytes (field 12 (lit< tt)) in
         let compression : leAt s 77 2 ≡ 0 = read-number 2 0 (field 13 (lit< tt)) (lit< tt) in
-        rw (version, flags, capacity, grainSize, descriptor, sectors, perTable, redundant, directory, newline, compression)
+        rw (version, flags, capacity, grainSize, descriptor, sectors, perTable, redundant, directory, dirty, newline, compression)
 
     rules-kept : KdmvRules s (laidFields c size)
     unfolding rows leBytes zeros

@@ -25,7 +25,7 @@ use Rattle.laws.specs.SameFrame.{SameBytes}
 use Rattle.laws.specs.Unused.{SameTables, SameInUse, SameUsed}
 use Rattle.laws.specs.NeverUsed.{SameSectors, SameLayers}
 use Rattle.laws.proofs.SameBytes.{number-same, part-same}
-use Rattle.laws.proofs.SameHeader.{SameHead, header-same, judge-same}
+use Rattle.laws.proofs.SameHeader.{SameHead, sizes-same, judge-same}
 use Rattle.laws.proofs.UnusedLookup.{SameAnswer, refused, found, InFile, unused-lookup}
 use Rattle.laws.proofs.UsedAnswers.{used-check, used-lookup, used-frame, used-list, used-row}
 use Rattle.laws.proofs.UsedChain.{used-chain}
@@ -40,6 +40,7 @@ module _ (s t : List ℕ) (both : SameSectors s t) where
     long = both .long;
     some = both .some;
     head = below 0 512 (omega (arith, both .some));
+    more = λ l n. below 0 2048 (omega (arith, l));
     tail = λ m e. (below _ 512 (omega (arith, both .some)), below _ 512 (omega (arith, both .some)));
   }
 
@@ -87,7 +88,8 @@ module _ (s t : List ℕ) (both : SameSectors s t) where
   pub never-used : SameUsed s t
   never-used = record {
     judged = never-used-header;
-    header = header-same s t same-head;
+    capacity = sizes-same s t same-head .0;
+    grainSize = sizes-same s t same-head .1;
     used = λ h e. in-use h (sound-of s h e);
   }
 

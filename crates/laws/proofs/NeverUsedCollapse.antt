@@ -31,7 +31,7 @@ use Rattle.laws.proofs.CollapsedLayers.{layer-accepted, capacity-is, si
 use Rattle.laws.proofs.CollapsedImages.{collapsed-is}
 use Rattle.laws.proofs.CollapsedAnswer.{collapse-layers}
 use Rattle.laws.proofs.CollapsedSelf.{collapse-self-output}
-use Rattle.laws.proofs.UsedCollapse.{entries-same, used-collapse, used-normal}
+use Rattle.laws.proofs.UsedCollapse.{entries-same, layer-header, used-collapse, used-normal}
 use Rattle.laws.proofs.NeverUsed.{never-used, never-used-check}
 
 -- ---- a layer's map
@@ -51,7 +51,8 @@ module _ (s t : List ℕ) (both : SameSectors s t) where
     layer-same : Layer c size t
     layer-same = record {
       accepted = sym (never-used-check s t both) ∙ p .accepted;
-      collapsible = rw (← never-used s t both .header) (p .collapsible);
+      collapsible = rw (← layer-header s t (never-used s t both) p) (p .collapsible);
+      clean = rw (← layer-header s t (never-used s t both) p) (p .clean);
     }
 
     map-same : SameGrains c size (mapOf s) (mapOf t)
@@ -62,7 +63,7 @@ module _ (s t : List ℕ) (both : SameSectors s t) where
         let found = layout-passed s h c size (rw (good .known) at (p .accepted)) in
         let used : g < grainsOf h = rw (capacity-is p, size-is p) l in
         let inside = none-lowest (grainPast s h) (grainsOf h) (found .grains) g used in
-        rw (← never-used s t both .header, ← entries-same s t (never-used s t both) p g l)
+        rw (← layer-header s t (never-used s t both) p, ← entries-same s t (never-used s t both) p g l)
         (grain-same (h .capacity) (h .«grain_size») g (grainEntry s h g) (rw (unpacked p) at inside))
 
 -- ---- what an answer leaves open

@@ -1,11 +1,13 @@
--- What a header is read from: the first sector and, where there is a footer, the last two. Images of one length that agree
--- there have the same header.
+-- What a header is read from: the first sector, of COWD the first four and, where there is a footer, the last two. Images of one
+-- length that agree there have the same header.
 use Prim.Native.Nat.{ℕ, _+_, _≤_}
 use mathlib.Core.Path.{_≡_, refl}
 use mathlib.Core.List.{List}
-use mathlib.Core.Bool.{true}
+use mathlib.Core.Bool.{true, false}
 use native.Mathlib.Omega.{arith}
+use lib.Dec.{ltb}
 use lib.ListN.{length}
+use borrow.Author.Tests.{ltb-false}
 use Rattle.base.specs.Numbers.{leAt}
 use Rattle.base.specs.Strings.{sameAt}
 use Rattle.base.specs.Bytes.{zeros}
@@ -14,7 +16,7 @@ use Rattle.base.proofs.Steps.{pick-both}
 use Rattle.format.specs.Geometry.{fileSectors, bytesAt}
 use Rattle.format.specs.Kdmv.{kdmvMagic, newlineBytes, kdmvFields, atEnd, footerAt, lastAt, footerDirectory, footerBroken}
 use Rattle.format.specs.Cowd.{cowdMagic, cowdFields}
-use Rattle.format.specs.Header.{directoryOf, headerOf, withFooter, judgeKdmv, judgeCowd, judge}
+use Rattle.format.specs.Header.{kdmvHeader, cowdHeader, directoryOf, headerOf, withFooter, judgeKdmv, judgeCowd, judge}
 use Rattle.format.specs.declared.Header.{Header}
 use Rattle.format.proofs.BytesAt.{part-long}
 use Rattle.laws.specs.SameFrame.{SameBytes}
@@ -24,6 +26,7 @@ pub record SameHead (s t : List ℕ) : Type 0 where
   pub long : length s ≡ length t
   pub some : 1 ≤ fileSectors s
   pub head : SameBytes s t 0 512
+  pub more : 2048 ≤ length s → sameAt s 0 kdmvMagic ≡ false → SameBytes s t 0 2048
   pub tail : sameAt s 0 kdmvMagic ≡ true → atEnd (kdmvFields s) ≡ true → (SameBytes s t (footerAt s) 512)
       × (SameBytes s t (lastAt s) 512)
 
@@ -47,19 +50,22 @@ module _ (s t : List ℕ) (both : SameHead s t) where
         number 44 4 (omega arith),
         number 48 8 (omega arith),
         number 56 8 (omega arith),
+        number 72 1 (omega arith),
         string 73 newlineBytes (omega arith),
         number 77 2 (omega arith),
       )
 
-  cowd-same : cowdFields s ≡ cowdFields t
+  -- the last field stands in the fourth sector, and counts only where there is one
+  cowd-same : 2048 ≤ length s → sameAt s 0 kdmvMagic ≡ false → cowdFields s ≡ cowdFields t
   unfolding cowdFields
-  cowd-same =
+  cowd-same l n =
       rw (
         number 4 4 (omega arith),
         number 12 4 (omega arith),
         number 16 4 (omega arith),
         number 20 4 (omega arith),
         number 24 4 (omega arith),
+        number-same s t 1648 4 (within s t 0 2048 1648 4 (both .more l n) (omega arith) (omega arith)),
       )
 
   -- ---- where there is a footer
@@ -107,15 +113,26 @@ module _ (s t : List ℕ) (both : SameHead s t) where
     unfolding judgeKdmv
     judge-kdmv-same = rw (← both .long, ← kdmv-same, directory-same, with-footer-same)
 
-  pub header-same : headerOf s ≡ headerOf t
-  unfolding headerOf
-  header-same =
+  judge-cowd-same : sameAt s 0 kdmvMagic ≡ false → judgeCowd s ≡ judgeCowd t
+  unfolding judgeCowd
+  judge-cowd-same n =
+      rw (← both .long)
+      (pick-both _≡_ (ltb (length s) 2048) _ _ _ _ (λ q. refl) (λ q. rw (cowd-same (ltb-false _ _ q) n)))
+
+  -- the sizes stand in sector 0, which is there
+  pub sizes-same : (headerOf s .capacity ≡ headerOf t .capacity) × (headerOf s .«grain_size» ≡ headerOf t .«grain_size»)
+  unfolding headerOf kdmvHeader cowdHeader kdmvFields cowdFields
+  sizes-same =
       rw (← string 0 kdmvMagic (omega arith))
-      (pick-both _≡_ (sameAt s 0 kdmvMagic) _ _ _ _ (λ m. rw (← kdmv-same, directory-same m)) (λ n. rw cowd-same))
+      (pick-both (λ (h k : Header). (h .capacity ≡ k .capacity) × (h .«grain_size» ≡ k .«grain_size»)) (sameAt s 0 kdmvMagic)
+      _ _ _ _ (λ m. (number 12 8 (omega arith), number 20 8 (omega arith)))
+      (λ n. (number 12 4 (omega arith), number 16 4 (omega arith))))
 
   pub judge-same : judge s ≡ judge t
-  unfolding judge judgeCowd
+  unfolding judge
   judge-same =
-      rw (← both .long, ← string 0 kdmvMagic (omega arith), ← string 0 cowdMagic (omega arith), ← cowd-same)
+      rw (← both .long, ← string 0 kdmvMagic (omega arith), ← string 0 cowdMagic (omega arith))
       (pick-both _≡_ _ _ _ _ _ (λ q. refl)
-      (λ n. pick-both _≡_ (sameAt s 0 kdmvMagic) _ _ _ _ judge-kdmv-same (λ m. refl)))
+      (λ n.
+      pick-both _≡_ (sameAt s 0 kdmvMagic) _ _ _ _ judge-kdmv-same
+      (λ m. pick-both _≡_ (sameAt s 0 cowdMagic) _ _ _ _ (λ c. judge-cowd-same m) (λ c. refl))))

@@ -1,6 +1,6 @@
 -- Check, lookup, frame and row of two images that agree in all that decides are the same.
 use Prim.Native.Nat.{ℕ, _<_}
-use mathlib.Core.Path.{_≡_, refl, ap, _∙_}
+use mathlib.Core.Path.{_≡_, refl, sym, ap, _∙_}
 use mathlib.Core.List.{List}
 use Rattle.base.proofs.Steps.{pick-both}
 use lib.ListN.{length}
@@ -10,6 +10,7 @@ use Rattle.format.specs.Check.{misplaced, checkFrom, check}
 use Rattle.format.specs.Source.{lookupFrom, sectorLookup}
 use Rattle.format.specs.Frame.{frameWords, frameFrom, frame, listAfter, frameList}
 use Rattle.format.specs.Survey.{entryKind, grainsOfKind, rowFrom, rowOf}
+use Rattle.format.specs.declared.Header.{Header}
 use Rattle.format.specs.declared.HeaderAnswer.{HeaderAnswer}
 use Rattle.format.specs.declared.HeaderAnswer.the-variants.{Known, Refused}
 use Rattle.format.proofs.HeaderSound.{sound-of}
@@ -58,15 +59,22 @@ module _ (s t : List ℕ) (both : SameUsed s t) where
   pub used-frame : (room : ℕ) → frame s room ≡ frame t room
   used-frame room = frame-from room (judge s) refl ∙ ap (frameFrom t room) (both .judged)
 
+  -- a header that is known is the same whole, and so is an accepted image's
+  header-known : (h : Header) → judge s ≡ Known h → headerOf s ≡ headerOf t
+  header-known h e = sym (judged-header s h e) ∙ judged-header t h (sym (both .judged) ∙ e)
+
+  pub header-accepted : (c size : ℕ) → check s ≡ Accepted c size → headerOf s ≡ headerOf t
+  header-accepted c size e = header-known (headerOf s) (accepted-good s (accepted-sound s c size e .0) .known)
+
   list-from : (room : ℕ) (list : List ℕ) (a : HeaderAnswer) → judge s ≡ a
       → listAfter (frameFrom s room a) (frameWords s (headerOf s)) list
-      ≡ listAfter (frameFrom t room a) (frameWords t (headerOf s)) list
+      ≡ listAfter (frameFrom t room a) (frameWords t (headerOf t)) list
   unfolding frameFrom listAfter
   list-from room list (Refused r) e = refl
   list-from room list (Known h) e =
       let sound = sound-of s h e in
       let used = both .used h e in
-      rw (← judged-header s h e, ← misplaced-same s t h (sound .sizes .low) (sound .some) used)
+      rw (← header-known h e, ← judged-header s h e, ← misplaced-same s t h (sound .sizes .low) (sound .some) used)
       (pick-both (λ x y. listAfter x (frameWords s h) list ≡ listAfter y (frameWords t h) list) (misplaced s h) _ _ _ _
       (λ q. refl)
       (λ n.
@@ -79,7 +87,7 @@ module _ (s t : List ℕ) (both : SameUsed s t) where
   pub used-list : (list : List ℕ) → frameList s list ≡ frameList t list
   used-list list =
       list-from (length list) list (judge s) refl
-      ∙ rw (both .judged, both .header)
+      ∙ rw (both .judged)
 
   -- ---- the entries of an accepted image, and its row
   pub accepted-entries : (c size : ℕ) → check s ≡ Accepted c size → (g : ℕ) → g < grainsOf (headerOf s)
@@ -97,11 +105,11 @@ module _ (s t : List ℕ) (both : SameUsed s t) where
   kinds-same c size a v =
       count-same _ _ v _ (λ g l. ap (entryKind (headerOf s .packed)) (accepted-entries c size a g l))
 
-  row-from : (a : CheckAnswer) → check s ≡ a → rowFrom s (headerOf s) a ≡ rowFrom t (headerOf s) a
+  row-from : (a : CheckAnswer) → check s ≡ a → rowFrom s (headerOf s) a ≡ rowFrom t (headerOf t) a
   unfolding rowFrom
   row-from (unaccepted r) e = refl
   row-from (Accepted c size) e =
-      let same = kinds-same c size e in rw (same 2, same 1, same 0, same 3)
+      let same = kinds-same c size e in rw (← header-accepted c size e, same 2, same 1, same 0, same 3)
 
   pub used-row : rowOf s ≡ rowOf t
-  used-row = row-from (check s) refl ∙ rw (used-check, both .header)
+  used-row = row-from (check s) refl ∙ rw used-check

@@ -7,8 +7,7 @@ use lib.Dec.{eqb}
 use lib.ListN.{length}
 use borrow.Author.Tests.{eqb-false}
 use Rattle.base.proofs.Steps.{or-no, pick-both}
-use Rattle.format.specs.Header.{headerOf}
-use Rattle.format.specs.Chain.{layerAt, headersDown, layersDiffer, walkDown, walk, chainLookup}
+use Rattle.format.specs.Chain.{unlike, layerAt, headersDown, layersDiffer, walkDown, walk, chainLookup}
 use Rattle.format.specs.declared.ChainAnswer.{ChainAnswer}
 use Rattle.format.proofs.Entries.{some-same}
 use Rattle.laws.specs.Unused.{SameUsed}
@@ -16,9 +15,6 @@ use Rattle.laws.proofs.UsedAnswers.{used-lookup}
 
 module _ (s t lengths : List ℕ) (long : length s ≡ length t)
     (each : (k : ℕ) → k < length lengths → SameUsed (layerAt s lengths k) (layerAt t lengths k)) where
-  head-same : (k : ℕ) → k < length lengths → headerOf (layerAt s lengths k) ≡ headerOf (layerAt t lengths k)
-  head-same k l = each k l .header
-
   headers-same : (n : ℕ) → n ≤ length lengths → (a : ChainAnswer) → headersDown s lengths n a ≡ headersDown t lengths n a
   unfolding headersDown
   headers-same zero l a = refl
@@ -26,7 +22,10 @@ module _ (s t lengths : List ℕ) (long : length s ≡ length t)
       rw (each n (omega arith) .judged, headers-same n (omega arith) a)
 
   differ-same : 1 ≤ length lengths → layersDiffer s lengths ≡ layersDiffer t lengths
-  differ-same some = some-same _ _ (length lengths) (λ k l. rw (head-same 0 some, head-same k l))
+  unfolding unlike
+  differ-same some =
+      some-same _ _ (length lengths)
+      (λ k l. rw (each 0 some .capacity, each 0 some .grainSize, each k l .capacity, each k l .grainSize))
 
   walk-down-same : (x n : ℕ) → n ≤ length lengths → walkDown s lengths x n ≡ walkDown t lengths x n
   unfolding walkDown
@@ -36,7 +35,7 @@ module _ (s t lengths : List ℕ) (long : length s ≡ length t)
 
   walk-same : 1 ≤ length lengths → (x : ℕ) → walk s lengths x ≡ walk t lengths x
   unfolding walk
-  walk-same some x = rw (differ-same some, head-same 0 some, walk-down-same x (length lengths) (omega arith))
+  walk-same some x = rw (differ-same some, each 0 some .capacity, walk-down-same x (length lengths) (omega arith))
 
   pub used-chain : (x : ℕ) → chainLookup s lengths x ≡ chainLookup t lengths x
   unfolding chainLookup

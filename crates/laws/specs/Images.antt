@@ -129,9 +129,9 @@ packed first size next nextSize =
     ∷ []))
     1
 
--- ---- headers that images of KDMV tell, where entry 1 means zeros
-abbrev headed : ℕ → ℕ → Bool → ℕ → ℕ → ℕ → ℕ → Header
-headed capacity grainSize stream descriptor descriptorSectors directory redundant =
+-- ---- headers that images of KDMV tell, where entry 1 means zeros; all but `openHeader` of clean disks
+abbrev headed : ℕ → ℕ → Bool → ℕ → ℕ → ℕ → ℕ → ℕ → Header
+headed capacity grainSize stream descriptor descriptorSectors directory redundant dirty =
     record {
       cowd = false;
       capacity = capacity;
@@ -147,17 +147,22 @@ headed capacity grainSize stream descriptor descriptorSectors directory redundan
       «one_is_zero» = true;
       packed = stream;
       footer = stream;
+      dirty = dirty;
     }
 
 -- by capacity and grain size
 abbrev pub sizedHeader : ℕ → ℕ → Header
-sizedHeader capacity grainSize = headed capacity grainSize false 0 0 1 0
+sizedHeader capacity grainSize = headed capacity grainSize false 0 0 1 0 0
+
+-- the same, by the dirty number too
+abbrev pub openHeader : ℕ → ℕ → ℕ → Header
+openHeader capacity grainSize dirty = headed capacity grainSize false 0 0 1 0 dirty
 
 -- of `doubled` with other numbers: descriptor, its sectors, directory, redundant directory
 abbrev pub plainHeader : ℕ → ℕ → ℕ → ℕ → Header
 plainHeader descriptor descriptorSectors directory redundant =
-    headed 16 8 false descriptor descriptorSectors directory redundant
+    headed 16 8 false descriptor descriptorSectors directory redundant 0
 
 -- of a stream whose directory stands at a sector
 abbrev pub streamHeader : ℕ → Header
-streamHeader directory = headed 16 8 true 9 1 directory 0
+streamHeader directory = headed 16 8 true 9 1 directory 0 0

@@ -8,13 +8,14 @@ use Rattle.format.specs.Geometry.{grains}
 use Rattle.format.specs.Header.{headerOf}
 use Rattle.format.specs.Check.{check}
 use Rattle.format.specs.Grains.{Map, merge, allAbsent}
-use Rattle.format.specs.Collapse.{mapOf, collapsed, notCollapsible}
+use Rattle.format.specs.Collapse.{mapOf, collapsed, notCollapsible, stillOpen}
 use Rattle.format.specs.declared.CheckAnswer.the-variants.{Accepted}
 
--- an image that collapse takes: accepted, with this capacity and grain size, KDMV and uncompressed
+-- an image that collapse takes: accepted, with this capacity and grain size, KDMV and uncompressed, and clean
 pub record Layer (capacity grainSize : ℕ) (s : List ℕ) : Type 0 where
   pub accepted : check s ≡ Accepted capacity grainSize
   pub collapsible : notCollapsible (headerOf s) ≡ false
+  pub clean : stillOpen (headerOf s) ≡ false
 
 -- two maps that agree on the grains that there are; an image whose grains are all absent has the grains of `allAbsent`
 abbrev pub SameGrains : ℕ → ℕ → Map → Map → Type 0
