@@ -2,6 +2,7 @@
 ghost use mathlib.Core.Path.{_≡_};
 ghost use Prim.Native.Nat.{_≤_};
 ghost use lib.ListN.{length};
+ghost use Rattle.base.specs.Numbers.{leAt};
 ghost use Rattle.format.specs.Kdmv.{kdmvFields, versionBroken, newlineBroken, otherFlags, flagsBroken, atEnd, kdmvSizesBroken};
 ghost use Rattle.format.specs.Kdmv.{kdmvFault};
 ghost use Rattle.format.specs.Header.{kdmvOneIsZero, kdmvHeader, directoryOf, withFooter, judgeKdmv};
@@ -30,6 +31,14 @@ const COMPRESSED: u64 = 0x10000;
 
 const MARKERS: u64 = 0x20000;
 
+// Byte 72.
+fn dirty(image: &[u8]) -> u64
+    requires { ⌜ 512 ≤ length (now image) ⌝ }
+    ensures { λ r. ⌜ r ≡ leAt (now (image .entry)) 72 1 ⌝ }
+{
+    base::wide(image[72])
+}
+
 fn fields(image: &[u8]) -> KdmvFields
     requires { ⌜ 512 ≤ length (now image) ⌝ }
     ensures { λ r. ⌜ r ≡ kdmvFields (now (image .entry)) ⌝ }
@@ -44,7 +53,7 @@ fn fields(image: &[u8]) -> KdmvFields
         entries_per_table: base::u32_at(image, 44),
         redundant: base::u64_at(image, 48),
         directory: base::u64_at(image, 56),
-        dirty: image[72] as u64,
+        dirty: dirty(image),
         newline: base::same_at(image, 73, b"\n \r\n"),
         compression: base::u16_at(image, 77),
     }

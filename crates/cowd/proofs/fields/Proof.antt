@@ -13,13 +13,15 @@ fields-spec =
     (λ u32-at-requires-3 κs. search needs)
     (λ u32-at-requires-4 κs. search needs)
     (λ u32-at-requires-5 κs. search needs)
+    (λ u32-at-requires-6 κs. search needs)
     (λ c. (
       rw (
-        c .u32-at5 .ensures .0,
-        c .before .u32-at4 .ensures .0,
-        c .before .before .u32-at3 .ensures .0,
-        c .before .before .before .u32-at2 .ensures .0,
-        c .before .before .before .before .u32-at .ensures .0,
+        c .u32-at6 .ensures .0,
+        c .before .u32-at5 .ensures .0,
+        c .before .before .u32-at4 .ensures .0,
+        c .before .before .before .u32-at3 .ensures .0,
+        c .before .before .before .before .u32-at2 .ensures .0,
+        c .before .before .before .before .before .u32-at .ensures .0,
       ),
       search needs,
     )))
