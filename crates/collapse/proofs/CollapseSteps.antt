@@ -12,11 +12,11 @@ use Rattle.format.specs.Header.{headerOf}
 use Rattle.format.specs.Check.{check}
 use Rattle.format.specs.Chain.{unlike}
 use Rattle.format.specs.Grains.{Map, merge, grainMap}
-use Rattle.format.specs.Collapse.{mapOf, laidLength, normalForm, collapsed, ifAccepted, notCollapsible, writtenIfRoom}
-use Rattle.format.specs.Collapse.{normalFrom, collapseFrom, output}
+use Rattle.format.specs.Collapse.{mapOf, laidLength, normalForm, collapsed, ifAccepted, notCollapsible, stillOpen}
+use Rattle.format.specs.Collapse.{writtenIfRoom, normalFrom, collapseFrom, output}
 use Rattle.format.specs.declared.Header.{Header}
 use Rattle.format.specs.declared.Refusal.{Refusal}
-use Rattle.format.specs.declared.Refusal.the-variants.{TooLittleRoom, LayersDiffer, NotCollapsible}
+use Rattle.format.specs.declared.Refusal.the-variants.{TooLittleRoom, LayersDiffer, NotCollapsible, StillOpen}
 use Rattle.format.specs.declared.CheckAnswer.{CheckAnswer}
 use Rattle.format.specs.declared.CheckAnswer.the-variants.{Accepted, Refused as unaccepted}
 use Rattle.format.specs.declared.HeaderAnswer.{HeaderAnswer}
@@ -53,7 +53,19 @@ module _ (long room : ℕ) (all : ℕ) (e : long ≡ all) (image d : List ℕ) w
 
 pub ruleset rooms = (too-short, written)
 
--- ---- 23, 22, 21
+-- ---- 27
+module _ {a b lower upper : Bool} (x : CollapseAnswer) (image d : List ℕ) (e : a ≡ lower) (f : b ≡ upper) where
+  either : (a || b) ≡ (lower || upper)
+  either = rw (e, f)
+
+  pub not-clean : (a || b) ≡ true → Answered (pick (lower || upper) (Refused StillOpen) x) image d (Refused StillOpen) d
+  not-clean t = refused _ image d StillOpen (stop _ _ _ either t refl)
+
+  pub then-clean : (a || b) ≡ false → {r : CollapseAnswer} {y : List ℕ} → Answered x image d r y
+      → Answered (pick (lower || upper) (Refused StillOpen) x) image d r y
+  then-clean n p = as-well (sym (skip _ _ _ either n refl)) p
+
+-- ---- 23, 22, and what comes after them
 module _ {a b : Bool} (h k : Header) (m : Map) (room : ℕ) (image d : List ℕ) (e : a ≡ notCollapsible h)
     (f : b ≡ notCollapsible k) where
   both : (a || b) ≡ (notCollapsible h || notCollapsible k)
@@ -68,10 +80,11 @@ module _ {a b : Bool} (h k : Header) (m : Map) (room : ℕ) (image d : List ℕ)
     unfolding collapseFrom
     not-alike t = refused _ image d LayersDiffer (skip _ _ _ both n (stop _ _ _ i t refl))
 
-    pub then-fitted : c ≡ false → {r : CollapseAnswer} {x : List ℕ} → Answered (writtenIfRoom room (laidLength h m)) image d r x
+    pub then-alike : c ≡ false → {r : CollapseAnswer} {x : List ℕ}
+        → Answered (pick (stillOpen h || stillOpen k) (Refused StillOpen) (writtenIfRoom room (laidLength h m))) image d r x
         → Answered (collapseFrom h k m room) image d r x
     unfolding collapseFrom
-    then-fitted j p = as-well (sym (skip _ _ _ both n (skip _ _ _ i j refl))) p
+    then-alike j p = as-well (sym (skip _ _ _ both n (skip _ _ _ i j refl))) p
 
 -- ---- the checks
 module _ (s : List ℕ) (a : HeaderAnswer) (e : a ≡ acceptedHeader (check s) (headerOf s)) (x : CollapseAnswer)
@@ -110,7 +123,7 @@ merge-same m = λ i g. onto-self (m g) i
 
 itself : (h : Header) (m : Map) (room : ℕ) → collapseFrom h h (merge m m) room ≡ normalFrom h m room
 unfolding collapseFrom normalFrom pick
-itself h m room = rw (or-same (notCollapsible h), like h h refl refl, merge-same m)
+itself h m room = rw (or-same (notCollapsible h), like h h refl refl, or-same (stillOpen h), merge-same m)
 
 pub normal-as : (s : List ℕ) (h : Header) → Checked s h → (room : ℕ) {d : List ℕ} {r : CollapseAnswer} {y : List ℕ}
     → Answered (collapseFrom h h (layered s h s h) room) (imageOf s h s h) d r y

@@ -1,9 +1,13 @@
 // Collapse of a lower and an upper image, and the normal form of one, into lent output.
 ghost use mathlib.Core.Path.{_≡_};
+ghost use mathlib.Core.Bool.{_||_};
 ghost use lib.ListN.{length};
+ghost use Rattle.base.specs.Pick.{pick};
 ghost use Rattle.format.specs.Check.{check};
 ghost use Rattle.format.specs.Collapse.{collapsed, ifAccepted, notCollapsible, stillOpen, writtenIfRoom, normal, normalOutput};
 ghost use Rattle.format.specs.Collapse.{collapseFrom, collapse, collapseOutput};
+ghost use Rattle.format.specs.declared.Refusal.the-variants.{StillOpen};
+ghost use Rattle.format.specs.declared.CollapseAnswer.the-variants.{Refused};
 ghost use Rattle.layers.specs.TwoLayers.{layered, imageOf, lengthOf, Layers};
 ghost use Rattle.accept.specs.AcceptedHeader.{Checked};
 ghost use Rattle.collapse.specs.Answered.{collapseAccepted, Answered};
@@ -40,6 +44,20 @@ fn write_fitted(lower: &[u8], h: Header, upper: &[u8], k: Header, out: &mut [u8]
     CollapseAnswer::Written(long)
 }
 
+// 27, then what the room allows.
+fn write_clean(lower: &[u8], h: Header, upper: &[u8], k: Header, out: &mut [u8]) -> CollapseAnswer
+    requires { ⌜ Layers (now lower) h (now upper) k ⌝ }
+    ensures { λ r.
+        ⌜ Answered (pick (stillOpen h || stillOpen k) (Refused StillOpen)
+        (writtenIfRoom (length (now (out .entry))) (lengthOf (now (lower .entry)) h (now (upper .entry)) k)))
+        (imageOf (now (lower .entry)) h (now (upper .entry)) k) (now (out .entry)) r (now (out .exit)) ⌝ }
+{
+    if still_open(h) | still_open(k) {
+        return CollapseAnswer::Refused(Refusal::StillOpen);
+    }
+    write_fitted(lower, h, upper, k, &mut *out)
+}
+
 // Of two accepted images: 23, 22, 27, 21.
 fn collapse_layers(
     lower: &[u8],
@@ -59,10 +77,7 @@ fn collapse_layers(
     if header::unlike(h, k) {
         return CollapseAnswer::Refused(Refusal::LayersDiffer);
     }
-    if still_open(h) | still_open(k) {
-        return CollapseAnswer::Refused(Refusal::StillOpen);
-    }
-    write_fitted(lower, h, upper, k, &mut *out)
+    write_clean(lower, h, upper, k, &mut *out)
 }
 
 // Where the lower image is accepted: the upper's check, then the rest.

@@ -1,5 +1,5 @@
 use Rattle.collapse.proofs.Checks.{layers-of}
-use Rattle.collapse.proofs.CollapseSteps.{not-taken, not-alike, then-fitted}
+use Rattle.collapse.proofs.CollapseSteps.{not-taken, not-alike, then-alike}
 use borrow.Author.Needs.{needs}
 use Rattle.collapse.proofs.collapse_layers.Statement.{statement}
 use Rattle.collapse.proofs.collapse_layers.Tie as tie
@@ -27,5 +27,5 @@ collapse-layers-spec =
     (λ c.
     let j = c .before .before .before .before in
     let i = j .before .before in
-    then-fitted _ _ _ _ _ _ (i .before .before .not-collapsible .ensures) (i .before .not-collapsible2 .ensures)
-    (i .if1 .left) (j .before .unlike .ensures) (j .if2 .left) (c .before .before .write-fitted .ensures)))
+    then-alike _ _ _ _ _ _ (i .before .before .not-collapsible .ensures) (i .before .not-collapsible2 .ensures)
+    (i .if1 .left) (j .before .unlike .ensures) (j .if2 .left) (c .before .before .write-clean .ensures)))
