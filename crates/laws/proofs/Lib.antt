@@ -41,6 +41,10 @@ pub mod Counts
 pub mod UsedAnswers
 pub mod UsedChain
 pub mod UsedCollapse
+pub mod StillOpenUsed
+pub mod StillOpenHeader
+pub mod StillOpenRead
+pub mod StillOpen
 pub mod NeverUsed
 pub mod NeverUsedCollapse
 pub mod SplitServed

@@ -5,6 +5,7 @@ pub mod SameFrame
 pub mod RowSums
 pub mod NeverUsed
 pub mod Unused
+pub mod StillOpen
 pub mod Images
 pub mod Examples
 pub mod ExampleLayers
