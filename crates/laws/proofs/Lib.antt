@@ -45,6 +45,8 @@ pub mod StillOpenUsed
 pub mod StillOpenHeader
 pub mod StillOpenRead
 pub mod StillOpen
+pub mod CheckRefusals
+pub mod StillOpenAnswer
 pub mod NeverUsed
 pub mod NeverUsedCollapse
 pub mod SplitServed

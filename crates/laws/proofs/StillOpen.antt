@@ -68,7 +68,8 @@ module _ (s t : List ℕ) (both : SameBut s t 72 1) (kdmv : sameAt s 0 kdmvMagic
           kdmv-with s t (both .long) (λ i l b. both .before i (omega arith)) (λ i l b. both .after i (omega arith)) kdmv
           (λ e. absurd (true≢false (sym e ∙ none)));
       used = λ h e some.
-          clear-used s t (both .long) (λ x. x ≡ 0) (λ i n. both .after i (omega arith)) h (sound-of s h e) (past-front s h some);
+          clear-used s t (both .long) (λ x. x ≡ 0) (λ i n. both .after i (omega arith)) h (sound-of s h e)
+          (past-front s h some);
     }
 
     pub open-kdmv-check : check s ≡ check t

@@ -121,7 +121,8 @@ module _ (s t : List ℕ) (both : SameElse s t) where
     unfolding checkLayout pick
     check-known =
         let sound = sound-of s h e in
-        by-directory (λ z. rw (misplaced-none s h z, misplaced-none t h z)) (unused-free s t h (sound .sizes .low) (sound .some))
+        by-directory (λ z. rw (misplaced-none s h z, misplaced-none t h z))
+        (unused-free s t h (sound .sizes .low) (sound .some))
 
     lookup-known : (x : ℕ) → lookupIn s h x ≡ lookupIn t h x
     unfolding lookupIn pick

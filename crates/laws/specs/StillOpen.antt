@@ -1,10 +1,17 @@
--- What two images agree in that differ in the number alone that tells whether the disk was still open.
+-- The number that says whether a disk was still open: what two images agree in that differ in it alone, and what 27 tells.
 use Prim.Native.Nat.{ℕ, _+_, _≤_, _<_}
 use mathlib.Core.Path.{_≡_}
 use mathlib.Core.List.{List}
+use mathlib.Core.Bool.{true, false, _||_}
 use lib.ListN.{length, getD}
 use Rattle.format.specs.Kdmv.{footerAt}
+use Rattle.format.specs.Header.{headerOf}
+use Rattle.format.specs.Check.{check}
+use Rattle.format.specs.Chain.{unlike}
+use Rattle.format.specs.Collapse.{notCollapsible, stillOpen}
+use Rattle.format.specs.declared.CheckAnswer.the-variants.{Accepted}
 
+-- ---- two images
 -- length and every byte but the n from `at` on
 pub record SameBut (s t : List ℕ) (at n : ℕ) : Type 0 where
   pub long : length s ≡ length t
@@ -16,3 +23,21 @@ pub record SameButFooter (s t : List ℕ) : Type 0 where
   pub long : length s ≡ length t
   pub same : (i : ℕ) → (i ≡ 72 → ⊥) → (i ≡ footerAt s + 72 → ⊥) → getD s i 0 ≡ getD t i 0
   pub again : getD t (footerAt s + 72) 0 ≡ getD t 72 0
+
+-- ---- what 27 tells
+abbrev pub Checked : List ℕ → Type 0
+Checked s = (capacity : ℕ) × (grainSize : ℕ) × (check s ≡ Accepted capacity grainSize)
+
+-- of one image: it is accepted, 23 lets it through, and it was still open
+pub record OpenImage (s : List ℕ) : Type 0 where
+  pub checked : Checked s
+  pub collapsible : notCollapsible (headerOf s) ≡ false
+  pub dirty : stillOpen (headerOf s) ≡ true
+
+-- of two: both are accepted, 23 and 22 let them through, and one of them was still open
+pub record OpenImages (lower upper : List ℕ) : Type 0 where
+  pub lowerChecked : Checked lower
+  pub upperChecked : Checked upper
+  pub collapsible : (notCollapsible (headerOf lower) || notCollapsible (headerOf upper)) ≡ false
+  pub alike : unlike (headerOf lower) (headerOf upper) ≡ false
+  pub dirty : (stillOpen (headerOf lower) || stillOpen (headerOf upper)) ≡ true
