@@ -44,7 +44,9 @@ pub mod UsedCollapse
 pub mod StillOpenUsed
 pub mod StillOpenHeader
 pub mod StillOpenRead
+pub mod StillOpenApart
 pub mod StillOpen
+pub mod StillOpenAccepted
 pub mod CheckRefusals
 pub mod StillOpenAnswer
 pub mod NeverUsed
