@@ -46,6 +46,7 @@ pub mod StillOpenHeader
 pub mod StillOpenRead
 pub mod StillOpenApart
 pub mod StillOpen
+pub mod StillOpenFooter
 pub mod StillOpenAccepted
 pub mod CheckRefusals
 pub mod StillOpenAnswer

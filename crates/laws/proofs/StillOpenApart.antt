@@ -27,9 +27,9 @@ held-row : (n : ℕ) (f : ℕ → List Area) (k : ℕ) → k < n → (x : ℕ) �
 unfolding rows
 held-row zero f k l x = absurd (omega arith)
 held-row (suc n) f k l x =
-    ⊎-elim (λ b. omega (arith, held-row n f k b x, holders-append (rows n f) (f n) x))
-    (λ b. let q : k ≡ n = omega arith in rw q (omega (arith, holders-append (rows n f) (f n) x)))
-    (lt-or-ge k n)
+    let all = holders-append (rows n f) (f n) x in
+    let last : holders (f n) x ≤ holders (rows (suc n) f) x = omega arith in
+    ⊎-elim (λ b. omega (arith, held-row n f k b x)) (λ b. let q : k ≡ n = omega arith in rw q last) (lt-or-ge k n)
 
 held-named : (sectors : ℕ → ℕ) (d : Entry) (e x : ℕ) → d ≡ Sector e → e ≤ x → x < e + sectors e
     → holders (named sectors d) x ≡ 1
