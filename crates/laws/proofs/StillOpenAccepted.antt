@@ -48,10 +48,9 @@ four-sectors : (s : List ℕ) → sameAt s 0 kdmvMagic ≡ false → headerOf s 
 unfolding headerOf cowdHeader
 four-sectors s n = ap (λ (h : Header). h .«header_sectors») (pick-else _ _ _ n)
 
-third-held : (h : Header) (x : ℕ) → h .«header_sectors» ≡ 4 → x ≡ 3 → 1 ≤ holders (headerArea h) x
+last-held : (h : Header) (x : ℕ) → h .«header_sectors» ≡ 4 → x ≡ 3 → 1 ≤ holders (headerArea h) x
 unfolding holders
-third-held h x four z =
-    omega (arith, holds-in (area 0 (h .«header_sectors»)) x (omega arith) (omega arith))
+last-held h x four z = omega (arith, holds-in (area 0 (h .«header_sectors»)) x (omega arith) (omega arith))
 
 module _ (s t : List ℕ) (both : SameBut s t 1648 4) (magic : sameAt s 0 cowdMagic ≡ true) (capacity grainSize : ℕ)
     (accepted : check s ≡ accepts capacity grainSize) where
@@ -68,7 +67,7 @@ module _ (s t : List ℕ) (both : SameBut s t 1648 4) (magic : sameAt s 0 cowdMa
         rw (judged-header s h e)
         (clear-used s t (both .long) (λ x. x ≡ 3) other-sectors (headerOf s) (good .sound)
         (clear-apart s (headerOf s) (good .sound) (good .areas) (λ x. x ≡ 3)
-        (λ x z. omega (arith, third-held (headerOf s) x four z))));
+        (λ x z. omega (arith, last-held (headerOf s) x four z))));
   }
 
   pub open-cowd-check : check s ≡ check t

@@ -5,11 +5,11 @@ use mathlib.Core.List.{List}
 use mathlib.Core.Logic.{⊎-elim}
 use native.Mathlib.Omega.{arith}
 use lib.Dec.{eqb}
-use lib.ListN.{length, drop, getD, length-take, length-drop}
+use lib.ListN.{drop, getD, length-take, length-drop}
 use lib.Seq.{getD-take, getD-drop, ext-getD}
 use borrow.Author.Tests.{eqb-true, eqb-false}
 use Rattle.base.proofs.Steps.{true-or-false}
-use Rattle.format.specs.Geometry.{fileSectors, bytesAt}
+use Rattle.format.specs.Geometry.{bytesAt}
 use Rattle.format.specs.Kdmv.{footerAt, lastAt, footerDirectory, footerBroken}
 use Rattle.format.specs.Accepted.{FooterRules}
 use Rattle.format.proofs.HeaderFooter.{kept-footer}
