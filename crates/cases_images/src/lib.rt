@@ -15,7 +15,7 @@ fn put_verdict(v: Verdict) {
     programs::end();
 }
 
-// Number, place, capacity, grain size, descriptor's sector and sectors.
+// Number, place, capacity, grain size, descriptor's sector and sectors, dirty.
 fn put_head(h: Head) {
     programs::start(b"header ");
     programs::put(h.number);
@@ -24,6 +24,7 @@ fn put_head(h: Head) {
     programs::put(h.grain_size);
     programs::put(h.descriptor);
     programs::put(h.descriptor_sectors);
+    programs::put(h.dirty);
     programs::end();
 }
 

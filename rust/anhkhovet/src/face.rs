@@ -18,8 +18,8 @@ answer! {
     Verdict { number, place, capacity, grain_size }
 }
 answer! {
-    /// What a header says; the refusals are 1 to 7 only.
-    Head { number, place, capacity, grain_size, descriptor, descriptor_sectors }
+    /// What a header says; the refusals are 1 to 7 only. A dirty number other than 0: the disk was still open.
+    Head { number, place, capacity, grain_size, descriptor, descriptor_sectors, dirty }
 }
 answer! {
     /// Where a sector comes from. Kind: 0 absent, 1 zero, 2 stored, 3 packed. The layer is a chain's, or the extent of a disk of

@@ -20,6 +20,16 @@ pub struct Header {
     pub descriptor: u64,
     /// Sectors of the descriptor; both numbers are 0 where there is none.
     pub descriptor_sectors: u64,
+    /// What the disk's last user left there: 0 where it was shut down, any other number where it was still open. Collapse and normal
+    /// form refuse such an image, 27; nothing else asks for it.
+    pub dirty: u64,
+}
+
+impl Header {
+    /// Whether the disk was still open when the image was copied.
+    pub fn still_open(&self) -> bool {
+        self.dirty != 0
+    }
 }
 
 /// The full check of one image: every layout rule, over every sector.
@@ -53,5 +63,6 @@ pub fn header(image: &[u8]) -> Result<Header, Refusal> {
         },
         descriptor: head.descriptor,
         descriptor_sectors: head.descriptor_sectors,
+        dirty: head.dirty,
     })
 }

@@ -6,7 +6,7 @@ use std::fmt;
 /// A refusal by document 01's rules. Shown, it is its number, its place where that counts something, and a sentence.
 #[derive(Clone, Copy, Debug, PartialEq, Eq, Hash)]
 pub struct Refusal {
-    /// Document 01's number: 1 to 12 of an image, 20 to 24 of what is asked, 30 to 36 of a text, 38, 39 and 45 of an extent.
+    /// Document 01's number: 1 to 12 of an image, 20 to 24 and 27 of what is asked, 30 to 36 of a text, 38, 39 and 45 of an extent.
     pub number: u64,
     /// The grain or the line at fault, as [`Refusal::counted`] says, else 0.
     pub place: u64,
@@ -73,6 +73,7 @@ impl Refusal {
             22 => "the images do not have the same capacity and grain size",
             23 => "a COWD or compressed image can be neither collapsed nor brought to normal form",
             24 => "a chain has 1 to 16 layers, a survey 1 to 1,024 images, a disk of several files one for each extent",
+            27 => "the disk was still open when it was copied: shut the machine down and copy it again",
             30 => "the first line is not \"# Disk DescriptorFile\"",
             31 => "there is text after a zero byte",
             32 => "the line is neither an extent nor of the form key = value",

@@ -36,6 +36,7 @@ fn whole_images() {
         disk: DISK,
         descriptor: 6,
         descriptor_sectors: 2,
+        dirty: 0,
     };
     assert_eq!((check(&image), header(&image)), (Ok(DISK), Ok(said)));
     let cut = &image[..image.len() - 1];
@@ -190,7 +191,7 @@ fn words_of_refusals() {
         line.to_string(),
         "refused 32 at line 3: the line is neither an extent nor of the form key = value"
     );
-    let numbers = (1..=12).chain(20..=24).chain(30..=36).chain([38, 39, 45]);
+    let numbers = (1..=12).chain(20..=24).chain(30..=36).chain([27, 38, 39, 45]);
     let mut sentences: Vec<&str> = numbers
         .map(|number| refused(number, 1).sentence())
         .collect();

@@ -94,7 +94,7 @@ mod proved {
             same!(raw::check(image) => Verdict { number, place, capacity, grain_size })
         }
         fn header(&self, image: &[u8]) -> Head {
-            same!(raw::header(image) => Head { number, place, capacity, grain_size, descriptor, descriptor_sectors })
+            same!(raw::header(image) => Head { number, place, capacity, grain_size, descriptor, descriptor_sectors, dirty })
         }
         fn lookup(&self, image: &[u8], sector: u64) -> Located {
             same!(raw::lookup(image, sector) => Located { number, layer, place, kind, sector, size, offset })

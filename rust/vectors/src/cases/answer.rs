@@ -55,6 +55,7 @@ impl Case {
             h.grain_size,
             h.descriptor,
             h.descriptor_sectors,
+            h.dirty,
         ];
         let result = plain::normal(image, self.room as usize);
         vec![
