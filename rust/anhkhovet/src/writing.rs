@@ -7,7 +7,8 @@ use crate::{raw, Refusal};
 ///
 /// Two images that read alike, grain by grain and kind by kind, have the same normal form.
 ///
-/// Refusals: 1 to 12 as the check has them, 23 for COWD and packed images, 21 where `out` is too short.
+/// Refusals: 1 to 12 as the check has them, 23 for COWD and packed images, 27 where the disk was still open, 21 where `out` is too
+/// short.
 ///
 /// It needs [`STACK`](crate::STACK) bytes of stack.
 ///
@@ -20,7 +21,7 @@ pub fn normal(image: &[u8], out: &mut [u8]) -> Result<u64, Refusal> {
 /// bytes it has. The bytes after it keep what they held; after a refusal all do.
 ///
 /// Refusals: 1 to 12 of `lower`, then of `upper`, as the check has them; 23 for COWD and packed images; 22 where the two are
-/// not of one capacity and grain size; 21 where `out` is too short.
+/// not of one capacity and grain size; 27 where one was still open; 21 where `out` is too short.
 ///
 /// It needs [`STACK`](crate::STACK) bytes of stack.
 ///
