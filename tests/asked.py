@@ -3,7 +3,7 @@ import pathlib
 import struct
 import sys
 
-CHAIN, COLLAPSE, TEXT, FIND, LOOKUPS, FRAME, SURVEY, SPLIT = range(1, 9)
+IMAGE, CHAIN, COLLAPSE, TEXT, FIND, LOOKUPS, FRAME, SURVEY, SPLIT = range(9)
 # The records of a list that is searched.
 SEARCHED = 32
 

@@ -21,8 +21,9 @@ def zeroed(*sizes, **fields):
     return kdmv(*sizes, **{**ZEROED, **fields})
 
 
-def cowd(capacity=16, size=8, directory=4, count=1, version=1, flags=3):
-    return (b"COWD" + struct.pack("<IIIIII", version, flags, capacity, size, directory, count)).ljust(4 * SECTOR, b"\0")
+def cowd(capacity=16, size=8, directory=4, count=1, version=1, flags=3, dirty=0):
+    head = (b"COWD" + struct.pack("<IIIIII", version, flags, capacity, size, directory, count)).ljust(1648, b"\0")
+    return (head + struct.pack("<I", dirty)).ljust(4 * SECTOR, b"\0")
 
 
 def image(sectors, *parts, extra=0):
