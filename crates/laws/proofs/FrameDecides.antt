@@ -3,13 +3,13 @@
 use Prim.Native.Nat.{ℕ, _+_, _*_, _≤_}
 use mathlib.Core.Path.{_≡_, refl, ap, _∙_}
 use mathlib.Core.List.{List, _++_}
-use mathlib.Core.Bool.{true, false}
+use mathlib.Core.Bool.{true}
 use mathlib.Core.Logic.{⊎-elim}
 use native.Mathlib.Omega.{arith}
 use lib.Dec.{lit≤}
 use borrow.Author.Tests.{ne-eqb}
 use Rattle.base.specs.Strings.{sameAt}
-use Rattle.format.proofs.Picked.{pick-then, pick-else}
+use Rattle.format.proofs.Picked.{pick-then}
 use Rattle.format.specs.Geometry.{fileSectors}
 use Rattle.format.specs.Kdmv.{kdmvMagic, kdmvFields, atEnd}
 use Rattle.format.specs.Header.{kdmvHeader, cowdHeader, headerOf, directoryEntriesOf, judge}
@@ -33,7 +33,7 @@ use Rattle.format.proofs.Places.{redundant-tables}
 use Rattle.laws.specs.SameFrame.{SameBytes, SameAreas, decidingAreas, SameFrame, SameFrames}
 use Rattle.laws.specs.Unused.{SameTables, SameInUse, SameUsed}
 use Rattle.laws.proofs.SameBytes.{within, number-same, areas-both, areas-row, area-there, area-named}
-use Rattle.laws.proofs.SameHeader.{SameHead, sizes-same, judge-same}
+use Rattle.laws.proofs.SameHeader.{four-sectors, SameHead, sizes-same, judge-same}
 use Rattle.laws.proofs.UsedAnswers.{used-check, used-lookup, used-frame, used-list, used-row}
 use Rattle.laws.proofs.UsedChain.{used-chain}
 use Rattle.laws.proofs.UsedCollapse.{used-collapse, used-normal}
@@ -118,16 +118,12 @@ module _ (s t : List ℕ) (both : SameFrame s t) where
   unfolding headerOf kdmvHeader
   has-footer m = ap (λ (h : Header). h .footer) (pick-then _ _ _ m)
 
-  four-sectors : sameAt s 0 kdmvMagic ≡ false → headerOf s .«header_sectors» ≡ 4
-  unfolding headerOf cowdHeader
-  four-sectors n = ap (λ (h : Header). h .«header_sectors») (pick-else _ _ _ n)
-
   same-head : SameHead s t
   same-head = record {
     long = both .long;
     some = sectors-some;
     head = within s t _ _ 0 512 (parts .header .0) (omega arith) (omega (arith, header-some s (headerOf s) known));
-    more = λ l n. within s t _ _ 0 2048 (parts .header .0) (omega arith) (omega (arith, four-sectors n));
+    more = λ l n. within s t _ _ 0 2048 (parts .header .0) (omega arith) (omega (arith, four-sectors s n));
     tail = λ m e. (
       area-there s t _ _ (parts .footer) (has-footer m ∙ e),
       area-there s t _ _ (parts .last) (has-footer m ∙ e),

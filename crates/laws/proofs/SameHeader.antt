@@ -1,7 +1,7 @@
 -- What a header is read from: the first sector, of COWD the first four and, where there is a footer, the last two. Images of one
 -- length that agree there have the same header.
 use Prim.Native.Nat.{ℕ, _+_, _≤_}
-use mathlib.Core.Path.{_≡_, refl}
+use mathlib.Core.Path.{_≡_, refl, ap}
 use mathlib.Core.List.{List}
 use mathlib.Core.Bool.{true, false}
 use native.Mathlib.Omega.{arith}
@@ -18,9 +18,15 @@ use Rattle.format.specs.Kdmv.{kdmvMagic, newlineBytes, kdmvFields, atEnd, foote
 use Rattle.format.specs.Cowd.{cowdMagic, cowdFields}
 use Rattle.format.specs.Header.{kdmvHeader, cowdHeader, directoryOf, headerOf, withFooter, judgeKdmv, judgeCowd, judge}
 use Rattle.format.specs.declared.Header.{Header}
+use Rattle.format.proofs.Picked.{pick-else}
 use Rattle.format.proofs.BytesAt.{part-long}
 use Rattle.laws.specs.SameFrame.{SameBytes}
 use Rattle.laws.proofs.SameBytes.{within, number-same, string-same, part-same}
+
+-- what is no KDMV header has four sectors
+pub four-sectors : (s : List ℕ) → sameAt s 0 kdmvMagic ≡ false → headerOf s .«header_sectors» ≡ 4
+unfolding headerOf cowdHeader
+four-sectors s n = ap (λ (h : Header). h .«header_sectors») (pick-else _ _ _ n)
 
 pub record SameHead (s t : List ℕ) : Type 0 where
   pub long : length s ≡ length t

@@ -1,7 +1,7 @@
 -- The number that tells whether a disk was still open decides nothing of a check, a lookup, a frame or a row of an accepted
 -- image: COWD, and KDMV with a footer, which has the number too.
 use Prim.Native.Nat.{ℕ, _+_, _-_, _/_, _≤_}
-use mathlib.Core.Path.{_≡_, sym, ap, _∙_}
+use mathlib.Core.Path.{_≡_, sym, _∙_}
 use mathlib.Core.List.{List}
 use mathlib.Core.Bool.{true, false, true≢false}
 use mathlib.Core.Logic.{_⊎_, inl, inr, ⊎-elim}
@@ -15,7 +15,7 @@ use Rattle.base.proofs.Steps.{and-yes, lt-or-ge}
 use Rattle.format.specs.Geometry.{fileSectors}
 use Rattle.format.specs.Kdmv.{kdmvMagic, kdmvFields, atEnd}
 use Rattle.format.specs.Cowd.{cowdMagic, cowdFields}
-use Rattle.format.specs.Header.{kdmvHeader, cowdHeader, headerOf}
+use Rattle.format.specs.Header.{kdmvHeader, headerOf}
 use Rattle.format.specs.Areas.{area, ifThere, headerArea, footerArea, holders}
 use Rattle.format.specs.Accepted.{FooterRules, Accepted}
 use Rattle.format.specs.Accepted.Accepted.{kdmv, cowd}
@@ -28,11 +28,11 @@ use Rattle.format.specs.declared.CheckAnswer.the-variants.{Accepted as accepts}
 use Rattle.format.proofs.Areas.{holds-in}
 use Rattle.format.proofs.HeaderCowd.{cowd-magic}
 use Rattle.format.proofs.HeaderJudged.{judged-header}
-use Rattle.format.proofs.Picked.{pick-else}
 use Rattle.laws.specs.StillOpen.{SameBut, SameButFooter}
 use Rattle.laws.proofs.AcceptedImage.{accepted-sound}
 use Rattle.laws.proofs.ServedSectors.{accepted-good}
 use Rattle.laws.proofs.StillOpenUsed.{SameElse, else-check, else-lookup, else-frame, else-list, else-row}
+use Rattle.laws.proofs.SameHeader.{four-sectors}
 use Rattle.laws.proofs.StillOpenHeader.{kdmv-with, cowd-with}
 use Rattle.laws.proofs.StillOpenFooter.{spared, same-directory, same-broken}
 use Rattle.laws.proofs.StillOpenRead.{clear-used}
@@ -44,10 +44,6 @@ unfolding sameAt
 one-magic s e = let first : getD s 0 0 ≡ 0x43 = eqb-true _ _ (and-yes (eqb (getD s 0 0) 0x43) _ e .0) in rw first
 
 -- ---- COWD: the number stands in the header's last sector
-four-sectors : (s : List ℕ) → sameAt s 0 kdmvMagic ≡ false → headerOf s .«header_sectors» ≡ 4
-unfolding headerOf cowdHeader
-four-sectors s n = ap (λ (h : Header). h .«header_sectors») (pick-else _ _ _ n)
-
 last-held : (h : Header) (x : ℕ) → h .«header_sectors» ≡ 4 → x ≡ 3 → 1 ≤ holders (headerArea h) x
 unfolding holders
 last-held h x four z = omega (arith, holds-in (area 0 (h .«header_sectors»)) x (omega arith) (omega arith))
