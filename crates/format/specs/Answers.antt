@@ -3,7 +3,8 @@ use Prim.Native.Nat.{ℕ}
 use Rattle.format.specs.declared.Refusal.{Refusal}
 use Rattle.format.specs.declared.Refusal.the-variants.{TooShort, Magic, Version, Newline, Flags, Sizes, Footer, Misplaced}
 use Rattle.format.specs.declared.Refusal.the-variants.{GrainPast, Marker, CopiesDiffer, SharedSector, SectorPast}
-use Rattle.format.specs.declared.Refusal.the-variants.{TooLittleRoom, LayersDiffer, NotCollapsible, LayerLengths, StillOpen}
+use Rattle.format.specs.declared.Refusal.the-variants.{TooLittleRoom, LayersDiffer, NotCollapsible, LayerLengths}
+use Rattle.format.specs.declared.Refusal.the-variants.{StillOpen}
 use Rattle.format.specs.declared.Source.{Source}
 use Rattle.format.specs.declared.Source.the-variants.{Absent, Zero, Stored, Packed}
 use Rattle.format.specs.declared.HeaderAnswer.{HeaderAnswer}
@@ -69,8 +70,8 @@ place NotCollapsible = 0
 place LayerLengths = 0
 place StillOpen = 0
 
--- ---- a header alone: the descriptor's numbers as it has them, 0 for COWD, and the dirty number. They are not judged: 8 and 27 are
--- no rules of the header
+-- ---- a header alone: the descriptor's numbers as it has them, 0 for COWD, and the dirty number. They are not judged: 8 and 27
+-- are no rules of the header
 abbrev pub headerNumbers : HeaderAnswer → Head
 headerNumbers (Known h) = record {
   number = 0;

@@ -18,7 +18,8 @@ use Rattle.format.specs.Chain.{unlike}
 use Rattle.format.specs.Grains.{Map, merge}
 use Rattle.format.specs.Layout.{layoutLength}
 use Rattle.format.specs.Collapse.{mapOf, laidLength, normalForm, collapsed, ifAccepted, notCollapsible, stillOpen}
-use Rattle.format.specs.Collapse.{writtenIfRoom, normalFrom, normal, collapseFrom, collapse, output, normalOutput, collapseOutput}
+use Rattle.format.specs.Collapse.{writtenIfRoom, normalFrom, normal, collapseFrom, collapse, output, normalOutput}
+use Rattle.format.specs.Collapse.{collapseOutput}
 use Rattle.format.specs.declared.Refusal.{Refusal}
 use Rattle.format.specs.declared.CheckAnswer.{CheckAnswer}
 use Rattle.format.specs.declared.CheckAnswer.the-variants.{Accepted, Refused as unaccepted}

@@ -18,4 +18,7 @@ use Rattle.laws.specs.ExampleLayers.{filled, lower, upper}
 
 pub layers : (Layer 69 8 lower) × (Layer 69 8 upper)
 unfolding endToEnd filled lower upper pick powerUpTo leAt leBytes sameAt zeros rows grains directoryEntries directorySectors kdmvFields kdmvFault kdmvHeader directoryOf headerOf unlessFault withFooter judgeKdmv judge meaning inTable entryOfGrain grainSectors anyBelow ifThere named redundantTables areas runsPast shares sharesAny meet misplaced lowestFrom copiesDiffer unlessGrain checkApart checkCopies checkGrains checkLayout checkFrom
-layers = (record { accepted = refl; collapsible = refl; clean = refl }, record { accepted = refl; collapsible = refl; clean = refl })
+layers = (
+  record { accepted = refl; collapsible = refl; clean = refl },
+  record { accepted = refl; collapsible = refl; clean = refl },
+)

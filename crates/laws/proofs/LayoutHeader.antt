@@ -90,7 +90,8 @@ module _ {c size : ℕ} (z : Sizes c size) where
         let dirty : leAt s 72 1 ≡ 0 = read-number 1 0 (field 11 (lit< tt)) (lit< tt) in
         let newline : sameAt s 73 newlineBytes ≡ true = read-same newlineBytes (field 12 (lit< tt)) in
         let compression : leAt s 77 2 ≡ 0 = read-number 2 0 (field 13 (lit< tt)) (lit< tt) in
-        rw (version, flags, capacity, grainSize, descriptor, sectors, perTable, redundant, directory, dirty, newline, compression)
+        rw
+        (version, flags, capacity, grainSize, descriptor, sectors, perTable, redundant, directory, dirty, newline, compression)
 
     rules-kept : KdmvRules s (laidFields c size)
     unfolding rows leBytes zeros

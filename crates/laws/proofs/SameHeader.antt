@@ -1,5 +1,5 @@
--- What a header is read from: the first sector, of COWD the first four and, where there is a footer, the last two. Images of one
--- length that agree there have the same header.
+-- What a header is read from: the first sector, of COWD the first four and, where there is a footer, the last two. Images of
+-- one length that agree there have the same header.
 use Prim.Native.Nat.{ℕ, _+_, _≤_}
 use mathlib.Core.Path.{_≡_, refl, ap}
 use mathlib.Core.List.{List}

@@ -29,8 +29,8 @@ pub record SameInUse (s t : List ℕ) (h : Header) : Type 0 where
   pub markers : h .packed ≡ true → (g e : ℕ) → g < grainsOf h → grainEntry s h g ≡ Sector e → e < fileSectors s
       → (markerSize s e ≡ markerSize t e) × (markerFirst s e ≡ markerFirst t e)
 
--- all that decides an answer: the header, and what is read of an image of that header. The sizes of `headerOf` too, since a chain
--- compares layers by it
+-- all that decides an answer: the header, and what is read of an image of that header. The sizes of `headerOf` too, since a
+-- chain compares layers by it
 pub record SameUsed (s t : List ℕ) : Type 0 where
   pub judged : judge s ≡ judge t
   pub capacity : headerOf s .capacity ≡ headerOf t .capacity
