@@ -30,6 +30,8 @@ pub struct Head {
     pub grain_size: u64,
     pub descriptor: u64,
     pub descriptor_sectors: u64,
+    /// The dirty number itself: any but 0 says that the disk was still open.
+    pub dirty: u64,
 }
 
 /// The frame's answer: how many areas the list starts with.

@@ -28,6 +28,8 @@ pub struct Header {
     /// Entries that the directory's area has room for: n, or COWD's stored count.
     pub stored_entries: u64,
     pub footer: bool,
+    /// Byte 72 of KDMV, the u32 at 1648 of COWD. No header is refused for it.
+    pub dirty: u64,
 }
 
 const NEWLINE_TEST: u64 = 0x1;
@@ -145,6 +147,7 @@ fn kdmv(image: &[u8]) -> Result<Header, Refusal> {
         directory,
         stored_entries: up(capacity, 512 * grain_size),
         footer,
+        dirty: number(image, 72, 1),
     })
 }
 
@@ -195,6 +198,7 @@ fn cowd(image: &[u8]) -> Result<Header, Refusal> {
         directory: number(image, 20, 4),
         stored_entries,
         footer: false,
+        dirty: number(image, 1648, 4),
     })
 }
 
@@ -206,6 +210,7 @@ pub fn header(image: &[u8]) -> Head {
             grain_size: header.grain_size,
             descriptor: header.descriptor,
             descriptor_sectors: header.descriptor_sectors,
+            dirty: header.dirty,
             ..Head::default()
         },
         Err(refusal) => Head {

@@ -19,6 +19,7 @@ enum Grain<'a> {
 pub fn normal(image: &[u8], room: usize) -> Result<Vec<u8>, Refusal> {
     let image = accept(image)?;
     judge_kind(&image)?;
+    judge_clean(&image)?;
     write(&[image], room)
 }
 
@@ -33,6 +34,8 @@ pub fn collapse(lower: &[u8], upper: &[u8], room: usize) -> Result<Vec<u8>, Refu
     {
         return Err(refusal(22));
     }
+    judge_clean(&lower)?;
+    judge_clean(&upper)?;
     write(&[upper, lower], room)
 }
 
@@ -62,7 +65,15 @@ fn judge_kind(image: &Image) -> Result<(), Refusal> {
     Ok(())
 }
 
-/// The result of accepted layers, topmost first, which agree in capacity and grain size.
+/// Refusal 27: a disk that was still open is not made to look finished.
+fn judge_clean(image: &Image) -> Result<(), Refusal> {
+    if image.header.dirty != 0 {
+        return Err(refusal(27));
+    }
+    Ok(())
+}
+
+/// The result of accepted and clean layers, topmost first, which agree in capacity and grain size.
 fn write(layers: &[Image], room: usize) -> Result<Vec<u8>, Refusal> {
     let header = layers[0].header;
     let (capacity, grain_size) = (header.capacity, header.grain_size);
