@@ -1,5 +1,6 @@
 //! The cases of a run: each makes its inputs from the seed and its own number, and calls both sides on them.
 
+use crate::dirty::written;
 use crate::image::{build, damage, suited, Built, Plan, Shape};
 use crate::rng::Rng;
 use crate::run::Run;
@@ -89,8 +90,7 @@ fn image_case(run: &mut Run, rng: &mut Rng, which: u64) {
         run.read(image, sector);
     }
     if run.compares(Call::Normal) {
-        let needed = needed(&built, || plain::normal(image, usize::MAX));
-        run.normal(image, room(rng, needed));
+        run.normal(image, room(rng, needed(&[image])));
     }
     if run.compares(Call::Frame) {
         frames::case(run, rng, image);
@@ -106,13 +106,13 @@ fn asked(rng: &mut Rng, built: &Built) -> u64 {
     }
 }
 
-/// The length of a result. Where the directory is large it is not made, and only short outputs are tried.
-fn needed(built: &Built, make: impl Fn() -> Result<Vec<u8>, plain::Refusal>) -> u64 {
-    let head = plain::header(&built.bytes);
+/// The length of a result, of dirty images too. Where the directory is large it is not made, and only short outputs are tried.
+fn needed(layers: &[&[u8]]) -> u64 {
+    let head = plain::header(layers[0]);
     if head.number != 0 || head.capacity / head.grain_size > 512 * 200 {
         return 0;
     }
-    make().map_or(0, |bytes| bytes.len() as u64)
+    written(layers, usize::MAX).map_or(0, |bytes| bytes.len() as u64)
 }
 
 /// An output's length: exact, a byte short, longer, or anything.
@@ -216,7 +216,7 @@ fn collapse_case(run: &mut Run, rng: &mut Rng, which: u64) {
         pair.push(made(rng, plan, which, u64::from(bad & bit != 0)));
     }
     let (lower, upper) = (&pair[0].bytes, &pair[1].bytes);
-    let needed = needed(&pair[0], || plain::collapse(lower, upper, usize::MAX));
+    let needed = needed(&[lower, upper]);
     for _ in 0..2 {
         run.collapse(lower, upper, room(rng, needed));
     }

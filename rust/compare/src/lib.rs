@@ -1,6 +1,7 @@
 //! Compares two implementations of document 01 on generated inputs, call by call.
 
 pub mod cases;
+mod dirty;
 mod disks;
 pub mod far;
 mod frames;

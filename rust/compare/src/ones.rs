@@ -64,9 +64,13 @@ impl Run<'_> {
         }
     }
 
-    /// Rows of a sector that comes from a KDMV image's grain at sector 1.
+    /// Rows of a sector that was served: by a dirty image, or from a KDMV image's grain at sector 1.
     pub(crate) fn count_source(&mut self, call: Call, located: Located, image: &[u8], sector: u64) {
-        if located.number != 0 || !image.starts_with(b"KDMV") {
+        if located.number != 0 {
+            return;
+        }
+        self.count_served(call, image);
+        if !image.starts_with(b"KDMV") {
             return;
         }
         let inside = sector % plain::header(image).grain_size;

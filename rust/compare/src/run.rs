@@ -111,6 +111,7 @@ impl<'a> Run<'a> {
             }
             return;
         }
+        self.count_dirty(call, image);
         let set = |range: std::ops::Range<usize>| image[range].iter().any(|byte| *byte != 0);
         let cowd = &image[..4] == b"COWD";
         let per_table = if cowd { 4096 } else { 512 };
@@ -232,6 +233,7 @@ impl<'a> Run<'a> {
         self.compare(call, [&tested, &plain], lent, inputs, &room);
         if plain.number != 0 {
             self.tally.refused(call, plain.number);
+            self.count_unwritten(call, plain.number, inputs, room);
             return;
         }
         let exact = plain.length == room as u64;

@@ -43,7 +43,7 @@ impl Call {
 }
 
 /// Kinds of answers, with the calls that can give them.
-const ANSWERS: [(&str, &[Call]); 53] = [
+const ANSWERS: [(&str, &[Call]); 67] = [
     ("accepted KDMV", &[Check, Header, Frame, Survey]),
     ("accepted COWD", &[Check, Header, Frame, Survey]),
     ("accepted, footer", &[Check, Header, Frame, Survey]),
@@ -99,6 +99,21 @@ const ANSWERS: [(&str, &[Call]); 53] = [
     ("24, sum that wraps", &[Split]),
     ("24, sector past", &[Split]),
     ("1 to 12, 38 too", &[Split]),
+    // Request A5: what dirty images are answered, and where two refusals would hold.
+    ("accepted, dirty KDMV", &[Check, Header, Frame, Survey]),
+    ("accepted, dirty footer", &[Check, Header, Frame, Survey]),
+    ("accepted, dirty COWD", &[Check, Header, Frame, Survey]),
+    ("accepted, low byte 0", &[Check, Header, Frame, Survey]),
+    ("from a dirty image", &[Lookup, Chain, Read, Split]),
+    ("27, lower alone", &[Collapse]),
+    ("27, upper alone", &[Collapse]),
+    ("27, both", &[Collapse]),
+    ("27, other than 1", &[Normal, Collapse]),
+    ("27, 21 too", &[Normal, Collapse]),
+    ("27, room enough", &[Normal, Collapse]),
+    ("8 to 12, 27 too", &[Normal, Collapse]),
+    ("23, 27 too", &[Normal, Collapse]),
+    ("22, 27 too", &[Collapse]),
 ];
 
 /// The refusals of documents 01 and 02, with the calls that can give them, a survey in its rows too; 37 is the program's own.
@@ -111,8 +126,8 @@ fn gives(number: u64, call: Call) -> bool {
         Read => false,
         Frame => (1..=8).contains(&number) || number == 21,
         Survey => (1..=12).contains(&number) || [21, 24].contains(&number),
-        Normal => (1..=12).contains(&number) || [21, 23].contains(&number),
-        Collapse => (1..=12).contains(&number) || (21..=23).contains(&number),
+        Normal => (1..=12).contains(&number) || [21, 23, 27].contains(&number),
+        Collapse => (1..=12).contains(&number) || [21, 22, 23, 27].contains(&number),
         Descriptor => (30..=36).contains(&number) || number == 21,
         Find => number == 20,
         Split => {

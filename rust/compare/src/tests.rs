@@ -5,8 +5,8 @@ use crate::image::{build, suited, unused, Built, Cell, Plan, Shape, What};
 use crate::rng::Rng;
 use crate::text;
 use plain::{
-    check, collapse, descriptor, frame, lookup, normal, read, split, survey, Extent, Located,
-    ABSENT, PACKED, STORED, ZERO,
+    check, collapse, descriptor, frame, header, lookup, normal, read, split, survey, Extent,
+    Located, ABSENT, PACKED, STORED, ZERO,
 };
 use std::collections::BTreeSet;
 
@@ -169,6 +169,7 @@ fn collapse_keeps_sectors_and_pairs_in_any_way() {
             cowd: Some(false),
             packed: Some(false),
             size: Some((rng.within(1, 700 * grain_size), grain_size)),
+            clean: true,
             ..any(100)
         };
         let made: Vec<Built> = (0..3).map(|_| sound(rng, plan)).collect();
@@ -177,6 +178,7 @@ fn collapse_keeps_sectors_and_pairs_in_any_way() {
         let bc = collapse(b, c, most).unwrap();
         assert_eq!(collapse(&ab, c, most), collapse(a, &bc, most), "{case}");
         assert_eq!(check(&ab).number, 0, "{case}");
+        assert_eq!(header(&ab).dirty, 0, "{case}");
         let normal_a = normal(a, most).unwrap();
         assert_eq!(collapse(a, a, most).unwrap(), normal_a, "{case}");
         assert_eq!(normal(&normal_a, most).unwrap(), normal_a, "{case}");

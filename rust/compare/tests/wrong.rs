@@ -1,5 +1,6 @@
 //! A side with one deliberate mistake must be caught, each of document 01's "mistakes to shut out" among them.
 
+mod dirty;
 mod miscounts;
 mod ones;
 mod splits;
@@ -49,9 +50,47 @@ enum Mistake {
     LineFromZero,
     EndThatWraps,
     Split(splits::Mistake),
+    Dirty(dirty::Mistake),
 }
 
 use Mistake::*;
+
+/// Those of this file.
+const ALL: [Mistake; 33] = [
+    OverlapAccepted,
+    PlaceOfFirstGrain,
+    DescriptorNumbersSwapped,
+    PackedOffsetForgotten,
+    ZerosByVersion,
+    ZerosByFlag,
+    ZerosInTablesOnly,
+    ZerosInCowd,
+    OldZerosIn11,
+    FlagInVersion1,
+    ZeroAsksTheParent,
+    LengthsThatWrap,
+    ShortPart,
+    RedundantAsPrimary,
+    CopiesJudged,
+    WordPastTheLast,
+    WordOnRefusal,
+    LastGrainLeftOut,
+    EntryAsOneGrain,
+    RefusedInTotals,
+    NumberAtItsOwnWord,
+    TallyAddedTo,
+    ListsBefore21,
+    WordPastTheRows,
+    SumThatWraps,
+    OneImageTooMany,
+    BytePastTheResult,
+    ByteOnRefusal,
+    LowerOverUpper,
+    RecordPastTheLast,
+    RecordOnRefusal,
+    LineFromZero,
+    EndThatWraps,
+];
 
 impl Side for Mistake {
     fn check(&self, image: &[u8]) -> Verdict {
@@ -63,7 +102,10 @@ impl Side for Mistake {
         if *self == PlaceOfFirstGrain {
             verdict.place = 0;
         }
-        verdict
+        match self {
+            Dirty(mistake) => mistake.check(verdict, image),
+            _ => verdict,
+        }
     }
 
     fn header(&self, image: &[u8]) -> Head {
@@ -71,7 +113,10 @@ impl Side for Mistake {
         if *self == DescriptorNumbersSwapped {
             std::mem::swap(&mut head.descriptor, &mut head.descriptor_sectors);
         }
-        head
+        match self {
+            Dirty(mistake) => mistake.header(head, image),
+            _ => head,
+        }
     }
 
     fn lookup(&self, image: &[u8], sector: u64) -> Located {
@@ -80,7 +125,10 @@ impl Side for Mistake {
         if *self == PackedOffsetForgotten {
             located.offset = 0;
         }
-        located
+        match self {
+            Dirty(mistake) => mistake.lookup(located, image),
+            _ => located,
+        }
     }
 
     fn chain(&self, layers: &[u8], lengths: &[u64], sector: u64) -> Located {
@@ -157,6 +205,9 @@ impl Side for Mistake {
     }
 
     fn normal(&self, image: &[u8], out: &mut [u8]) -> Written {
+        if let Dirty(mistake) = self {
+            return mistake.write(&[image], out);
+        }
         let written = Plain.normal(image, out);
         let past = written.number == 0 && *self == BytePastTheResult;
         let refused = written.number != 0 && *self == ByteOnRefusal;
@@ -167,10 +218,11 @@ impl Side for Mistake {
     }
 
     fn collapse(&self, lower: &[u8], upper: &[u8], out: &mut [u8]) -> Written {
-        if *self == LowerOverUpper {
-            return Plain.collapse(upper, lower, out);
+        match self {
+            LowerOverUpper => Plain.collapse(upper, lower, out),
+            Dirty(mistake) => mistake.write(&[lower, upper], out),
+            _ => Plain.collapse(lower, upper, out),
         }
-        Plain.collapse(lower, upper, out)
     }
 
     fn descriptor(&self, text: &[u8], list: &mut [Extent]) -> Described {
@@ -218,42 +270,9 @@ fn tally(mistake: Mistake, count: u64) -> Tally {
 
 #[test]
 fn each_mistake_is_caught() {
-    let mistakes = [
-        OverlapAccepted,
-        PlaceOfFirstGrain,
-        DescriptorNumbersSwapped,
-        PackedOffsetForgotten,
-        ZerosByVersion,
-        ZerosByFlag,
-        ZerosInTablesOnly,
-        ZerosInCowd,
-        OldZerosIn11,
-        FlagInVersion1,
-        ZeroAsksTheParent,
-        LengthsThatWrap,
-        ShortPart,
-        RedundantAsPrimary,
-        CopiesJudged,
-        WordPastTheLast,
-        WordOnRefusal,
-        LastGrainLeftOut,
-        EntryAsOneGrain,
-        RefusedInTotals,
-        NumberAtItsOwnWord,
-        TallyAddedTo,
-        ListsBefore21,
-        WordPastTheRows,
-        SumThatWraps,
-        OneImageTooMany,
-        BytePastTheResult,
-        ByteOnRefusal,
-        LowerOverUpper,
-        RecordPastTheLast,
-        RecordOnRefusal,
-        LineFromZero,
-        EndThatWraps,
-    ];
-    for mistake in mistakes.into_iter().chain(splits::ALL.map(Split)) {
+    let others = splits::ALL.map(Split).into_iter();
+    let others = others.chain(dirty::ALL.map(Dirty));
+    for mistake in ALL.into_iter().chain(others) {
         // Few cases catch most, and as many as the gate runs the others.
         let caught = |count| {
             let tally = tally(mistake, count);

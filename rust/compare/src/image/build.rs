@@ -199,6 +199,7 @@ fn write_header(built: &mut Built) {
         put(bytes, 12, 4, shape.capacity);
         put(bytes, 16, 4, shape.grain_size);
         put(bytes, 24, 4, shape.stored_entries);
+        put(bytes, 1648, 4, shape.dirty);
         point(built, What::Directory, 20, 4);
         return;
     }
@@ -208,6 +209,7 @@ fn write_header(built: &mut Built) {
     put(bytes, 36, 8, shape.descriptor);
     put(bytes, 44, 4, 512);
     put(bytes, 48, 8, 0);
+    put(bytes, 72, 1, shape.dirty);
     put(bytes, 77, 2, shape.packed.into());
     if shape.flags & 1 != 0 {
         bytes[73..77].copy_from_slice(&[0x0a, 0x20, 0x0d, 0x0a]);

@@ -55,56 +55,70 @@ pub fn header_field(rng: &mut Rng, built: &Built) -> (Field, u64) {
 }
 
 fn kdmv_field(rng: &mut Rng, built: &Built) -> (Field, u64) {
-    let f = built.sectors();
     let directory = built.shape.entries() * 4 / 512 + 1;
-    match rng.below(20) {
+    match rng.below(21) {
+        0 => (field(8, 4), flags(rng, built)),
+        1 => (field(12, 8), capacity(rng, built)),
+        2 => (field(20, 8), grain_size(rng)),
+        3 => (field(28, 8), place(rng, built, built.shape.descriptor, 8)),
+        4 => (field(36, 8), descriptor_sectors(rng, built)),
+        5 => (field(48, 8), place(rng, built, directory, 8)),
+        6 | 7 => (field(56, 8), place(rng, built, directory, 8)),
+        // Flag 0x4 alone, as another version does, changes what an entry of 1 is.
+        8..=10 => (field(8, 4), built.shape.flags ^ 0x4),
+        11 => (field(72, 1), dirty(rng, false)),
+        _ => fixed_field(rng),
+    }
+}
+
+/// A field whose edges are the same in every image.
+fn fixed_field(rng: &mut Rng) -> (Field, u64) {
+    match rng.below(9) {
         0 => (
             field(0, 4),
             rng.pick(&[0, 0x4457_4f43, 0x564d_444c, 0x554d_444b]),
         ),
-        1 | 15 => (
+        1 | 2 => (
             field(4, 4),
             rng.pick(&[0, 1, 2, 3, 4, 0xffff_ffff, 0x0100_0000, 257]),
         ),
-        2 => (field(8, 4), flags(rng, built)),
-        3 => (field(12, 8), capacity(rng, built)),
-        4 => (field(20, 8), grain_size(rng)),
-        5 => (field(28, 8), place(rng, built, built.shape.descriptor, 8)),
-        6 => {
-            let at = built.get(field(28, 8));
-            let edges = [0, 1, f, f.wrapping_sub(at), u64::MAX, rng.any()];
-            let wraps = [0_u64.wrapping_sub(at), 1_u64.wrapping_sub(at)];
-            let value = match rng.below(4) {
-                0 => rng.pick(&wraps),
-                1 => f.wrapping_sub(at).wrapping_add(1),
-                _ => rng.pick(&edges),
-            };
-            (field(36, 8), value)
-        }
-        7 => (
+        3 => (
             field(44, 4),
             rng.pick(&[0, 511, 512, 513, 1024, 4096, 0x0200_0001, 0x1_0000]),
         ),
-        8 => (field(48, 8), place(rng, built, directory, 8)),
-        9 | 10 => (field(56, 8), place(rng, built, directory, 8)),
-        // Overhead, dirty and padding are not judged.
-        11 => (
-            rng.pick(&[
-                field(64, 8),
-                field(72, 1),
-                field(79, 1),
-                field(511, 1),
-                field(200, 8),
-            ]),
+        // Overhead and padding are not judged.
+        4 => (
+            rng.pick(&[field(64, 8), field(79, 1), field(511, 1), field(200, 8)]),
             rng.any(),
         ),
-        12 | 13 | 16 => (
+        5..=7 => (
             field(73 + rng.index(4), 1),
             rng.pick(&[0, 0x0a, 0x0d, 0x20]),
         ),
-        14 => (field(77, 2), rng.pick(&[0, 1, 2, 256, 257, 0xffff])),
-        // Flag 0x4 alone, as another version does, changes what an entry of 1 is.
-        _ => (field(8, 4), built.shape.flags ^ 0x4),
+        _ => (field(77, 2), rng.pick(&[0, 1, 2, 256, 257, 0xffff])),
+    }
+}
+
+/// The descriptor's sectors: up to F, past it, or where a sum wraps.
+fn descriptor_sectors(rng: &mut Rng, built: &Built) -> u64 {
+    let f = built.sectors();
+    let at = built.get(field(28, 8));
+    let edges = [0, 1, f, f.wrapping_sub(at), u64::MAX, rng.any()];
+    let wraps = [0_u64.wrapping_sub(at), 1_u64.wrapping_sub(at)];
+    match rng.below(4) {
+        0 => rng.pick(&wraps),
+        1 => f.wrapping_sub(at).wrapping_add(1),
+        _ => rng.pick(&edges),
+    }
+}
+
+/// A dirty number that is not 0. Of COWD's four bytes any may be the only one that is not.
+pub fn dirty(rng: &mut Rng, cowd: bool) -> u64 {
+    let byte = rng.pick(&[1, 2, 255]);
+    if cowd {
+        byte << rng.pick(&[0, 8, 16, 24])
+    } else {
+        byte
     }
 }
 
@@ -112,7 +126,7 @@ fn cowd_field(rng: &mut Rng, built: &Built) -> (Field, u64) {
     let n = built.shape.entries();
     let at = built.get(field(20, 4));
     let left = built.sectors().saturating_sub(at) * 128;
-    match rng.below(8) {
+    match rng.below(9) {
         0 => (field(0, 4), rng.pick(&[0, 0x564d_444b, 0x4457_4f42])),
         1 => (field(4, 4), rng.pick(&[0, 1, 2, 3, 0xffff_ffff, 257])),
         2 => (field(8, 4), rng.any()),
@@ -127,6 +141,7 @@ fn cowd_field(rng: &mut Rng, built: &Built) -> (Field, u64) {
             field(24, 4),
             rng.pick(&[0, n - 1, n, n + 1, left, left.wrapping_add(1), most(4)]),
         ),
+        7 => (field(1648, 4), dirty(rng, true)),
         _ => (field(28 + rng.index(2020), 1), rng.any()),
     }
 }

@@ -1,5 +1,6 @@
 //! The shape of a sound image: its header's numbers and what each entry is.
 
+use super::edges::dirty;
 use crate::rng::Rng;
 use std::collections::BTreeMap;
 
@@ -20,6 +21,8 @@ pub struct Shape {
     pub capacity: u64,
     pub grain_size: u64,
     pub packed: bool,
+    /// 0 mostly.
+    pub dirty: u64,
     pub footer: bool,
     pub redundant: bool,
     /// Sectors of the descriptor area, 0 for none.
@@ -39,6 +42,8 @@ pub struct Plan {
     pub packed: Option<bool>,
     /// Capacity and grain size.
     pub size: Option<(u64, u64)>,
+    /// Whether the dirty number is 0 always.
+    pub clean: bool,
     pub footer: bool,
     pub redundant: bool,
     /// At most this many sectors of stored grains.
@@ -85,25 +90,16 @@ impl Shape {
         let (capacity, grain_size) = plan.size.unwrap_or_else(|| size(rng, cowd, packed));
         let markers = packed && (plan.footer || !rng.one_in(4));
         let redundant = !cowd && (plan.redundant || rng.one_in(2));
-        let newline = rng.one_in(2);
         let version = if cowd { 1 } else { rng.within(1, 3) };
-        let mut flags = 0;
-        for (bit, set) in [
-            (0x1, newline),
-            (0x2, redundant && rng.one_in(2)),
-            (0x4, version > 1 && !rng.one_in(3)),
-            (0x10000, packed),
-            (0x20000, markers),
-        ] {
-            flags |= if set { bit } else { 0 };
-        }
+        let open = rng.one_in(8) && !plan.clean;
         let mut shape = Shape {
             cowd,
             version,
-            flags: if cowd { rng.any() % (1 << 32) } else { flags },
+            flags: 0,
             capacity,
             grain_size,
             packed,
+            dirty: if open { dirty(rng, cowd) } else { 0 },
             footer: markers && (plan.footer || !rng.one_in(3)),
             redundant,
             descriptor: if !cowd && rng.one_in(2) {
@@ -115,6 +111,7 @@ impl Shape {
             tables: BTreeMap::new(),
             ones: 0,
         };
+        shape.flags = shape.choose_flags(rng, markers);
         if shape.one_is_zero() {
             shape.ones = rng.below(3);
         }
@@ -125,6 +122,24 @@ impl Shape {
         }
         shape.choose_tables(rng, plan.most_sectors);
         shape
+    }
+
+    /// KDMV's flags in any combination that goes with the rest; COWD's are not judged.
+    fn choose_flags(&self, rng: &mut Rng, markers: bool) -> u64 {
+        if self.cowd {
+            return rng.any() % (1 << 32);
+        }
+        let mut flags = 0;
+        for (bit, set) in [
+            (0x1, rng.one_in(2)),
+            (0x2, self.redundant && rng.one_in(2)),
+            (0x4, self.version > 1 && !rng.one_in(3)),
+            (0x10000, self.packed),
+            (0x20000, markers),
+        ] {
+            flags |= if set { bit } else { 0 };
+        }
+        flags
     }
 
     fn choose_tables(&mut self, rng: &mut Rng, most_sectors: u64) {
