@@ -2,6 +2,7 @@
 ghost use mathlib.Core.Path.{_≡_};
 ghost use Prim.Native.Nat.{_≤_, _<_};
 ghost use lib.ListN.{length};
+ghost use Rattle.base.specs.Numbers.{leAt};
 ghost use Rattle.format.specs.Cowd.{cowdFields, cowdVersionBroken, cowdSizesBroken, countBroken, cowdFault};
 ghost use Rattle.format.specs.Header.{cowdHeader, judgeCowd};
 ghost use Rattle.format.specs.Judged.{Sized};
@@ -15,6 +16,14 @@ use sizes::directory_entries;
 use sizes::directory_sectors;
 use sizes::grain_size_broken;
 
+// Four bytes, of which any may be the one that is not 0.
+fn dirty(image: &[u8]) -> u64
+    requires { ⌜ 2048 ≤ length (now image) ⌝ }
+    ensures { λ r. ⌜ r ≡ leAt (now (image .entry)) 1648 4 ⌝ }
+{
+    base::u32_at(image, 1648)
+}
+
 fn fields(image: &[u8]) -> CowdFields
     requires { ⌜ 2048 ≤ length (now image) ⌝ }
     ensures { λ r. ⌜ (r ≡ cowdFields (now (image .entry))) × (r .«directory_entries» < 0x100000000) ⌝ }
@@ -25,7 +34,7 @@ fn fields(image: &[u8]) -> CowdFields
         grain_size: base::u32_at(image, 16),
         directory: base::u32_at(image, 20),
         directory_entries: base::u32_at(image, 24),
-        dirty: base::u32_at(image, 1648),
+        dirty: dirty(image),
     }
 }
 

@@ -13,10 +13,10 @@ fields-spec =
     (λ u32-at-requires-3 κs. search needs)
     (λ u32-at-requires-4 κs. search needs)
     (λ u32-at-requires-5 κs. search needs)
-    (λ u32-at-requires-6 κs. search needs)
+    (λ dirty-requires κs. search needs)
     (λ c. (
       rw (
-        c .u32-at6 .ensures .0,
+        c .dirty .ensures,
         c .before .u32-at5 .ensures .0,
         c .before .before .u32-at4 .ensures .0,
         c .before .before .before .u32-at3 .ensures .0,
