@@ -191,7 +191,10 @@ fn words_of_refusals() {
         line.to_string(),
         "refused 32 at line 3: the line is neither an extent nor of the form key = value"
     );
-    let numbers = (1..=12).chain(20..=24).chain(30..=36).chain([27, 38, 39, 45]);
+    let numbers = (1..=12)
+        .chain(20..=24)
+        .chain(30..=36)
+        .chain([27, 38, 39, 45]);
     let mut sentences: Vec<&str> = numbers
         .map(|number| refused(number, 1).sentence())
         .collect();

@@ -20,7 +20,7 @@ fn stored_files() {
 #[test]
 fn small_input() {
     let input = std::fs::read(root().join("crates/cases/stdin")).unwrap();
-    assert!(input.len() <= 1_750_000, "{} bytes", input.len());
+    assert!(input.len() <= 1_950_000, "{} bytes", input.len());
 }
 
 /// The stored surveys have images of each refusal number of the check.
@@ -69,10 +69,13 @@ fn every_refusal() {
         ("chain", (0..=10).chain([20, 22, 24]).collect()),
         ("frame", (0..=8).chain([21]).collect()),
         ("survey", vec![0, 21, 24]),
-        ("normal", check.iter().copied().chain([21, 23]).collect()),
+        (
+            "normal",
+            check.iter().copied().chain([21, 23, 27]).collect(),
+        ),
         (
             "collapse",
-            check.iter().copied().chain([21, 22, 23]).collect(),
+            check.iter().copied().chain([21, 22, 23, 27]).collect(),
         ),
         ("descriptor", [0, 21].into_iter().chain(30..=35).collect()),
         ("find", vec![0, 20]),

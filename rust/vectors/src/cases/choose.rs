@@ -84,8 +84,9 @@ fn wanted(case: &Case, answer: &str) -> u64 {
         (true, _) => 15,
         (false, _) if [SURVEY, SPLIT].contains(&case.asked) => 1,
         (false, true) => 2,
-        // By all its groups, or at sector 1, one is enough.
+        // By all its groups, by its dirty number, or at sector 1, one is enough.
         (false, false) if case.asked == FRAME || answer.ends_with("at 1") => 1,
+        (false, false) if answer.starts_with("header ") => 1,
         (false, false) => 3,
     }
 }
@@ -137,6 +138,11 @@ fn kind(case: &Case, line: &str) -> String {
         "check" if !cowd && ["0", "5", "11", "12"].contains(&number) => {
             let (first, flag) = (case.bytes[4] == 1, case.bytes[8] & 0x4);
             format!("{call} {number} {first} {flag}")
+        }
+        // By the dirty number, told or not, and whether it is more than a byte.
+        "header" if number == "0" => {
+            let dirty: u64 = words[7].parse().unwrap_or(0);
+            format!("{call} {number} {cowd} {} {}", dirty > 0, dirty > 255)
         }
         "read" => format!("{call} {} {cowd}", number == "0"),
         "lookup" => {
