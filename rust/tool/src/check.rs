@@ -2,8 +2,7 @@
 
 use crate::described::Opened;
 use crate::failure::{Failure, Status};
-use crate::files::Layers;
-use crate::layer::Layer;
+use crate::judged::Judged;
 use crate::names::{name, put_name};
 use crate::print;
 use crate::progress::Progress;
@@ -14,60 +13,55 @@ use std::path::{Path, PathBuf};
 
 /// What is said of a file.
 enum Verdict {
-    Image(Disk),
+    Image(Judged<Disk>),
     Split(Verdicts),
-    Failed(Failure),
-}
-
-fn image(path: &Path, file: Layer) -> Result<Verdict, Failure> {
-    let mut layers = Layers::of(vec![file])?;
-    let verdict = layers.ask(0, anhkhovet::check)?;
-    layers.same()?;
-    let disk = verdict.map_err(Failure::refused(path))?;
-    Ok(Verdict::Image(disk))
 }
 
 fn one(path: &Path) -> Verdict {
     let judged = Opened::at(path).and_then(|opened| {
         let _progress = Progress::start(&format!("checking {}", name(path)), 0);
         match opened {
-            Opened::Image(file) => image(path, file),
+            Opened::Image(file) => Ok(Verdict::Image(Judged::of(file, anhkhovet::check))),
             Opened::Descriptor(disk) => Verdicts::of(disk).map(Verdict::Split),
         }
     });
-    judged.unwrap_or_else(Verdict::Failed)
+    judged.unwrap_or_else(|failure| Verdict::Image(failure.into()))
 }
 
 impl Verdict {
     fn status(&self) -> Option<Status> {
         match self {
-            Verdict::Image(_) => None,
+            Verdict::Image(judged) => judged.verdict.as_ref().err().map(Failure::status),
             Verdict::Split(verdicts) => verdicts.status(),
-            Verdict::Failed(failure) => Some(failure.status()),
         }
     }
 }
 
-fn line(path: &Path, verdict: &Verdict) -> String {
-    match verdict {
-        Verdict::Image(disk) => format!(
-            "{}: accepted, capacity {} sectors, grain size {}\n",
+fn image_line(path: &Path, judged: &Judged<Disk>) -> String {
+    let verdict = match &judged.verdict {
+        Ok(disk) => format!(
+            "{}: accepted, capacity {} sectors, grain size {}",
             name(path),
             disk.capacity,
             disk.grain_size
         ),
+        Err(failure) => failure.to_string(),
+    };
+    verdict + judged.remark() + "\n"
+}
+
+fn line(path: &Path, verdict: &Verdict) -> String {
+    match verdict {
+        Verdict::Image(judged) => image_line(path, judged),
         Verdict::Split(verdicts) => verdicts.lines(),
-        Verdict::Failed(failure) => format!("{failure}\n"),
     }
 }
 
 fn object(path: &Path, verdict: &Verdict) -> Value {
     let mut object = match verdict {
-        Verdict::Image(disk) => json!({
-            "accepted": { "capacity": disk.capacity, "grain_size": disk.grain_size }
-        }),
+        Verdict::Image(judged) => judged
+            .object(|disk| json!({ "capacity": disk.capacity, "grain_size": disk.grain_size })),
         Verdict::Split(verdicts) => verdicts.object(),
-        Verdict::Failed(failure) => failure.json(),
     };
     put_name(&mut object, "file", path);
     object

@@ -4,44 +4,89 @@ use crate::beside;
 use crate::cli::stream;
 use crate::described::said;
 use crate::failure::Failure;
-use crate::names::{put_bytes, shown};
+use crate::frame::ends;
+use crate::names::{name, put_bytes, shown};
 use crate::print;
+use crate::still_open::{self, still_open, OpenImages};
 use crate::text::Text;
-use anhkhovet::{Descriptor, Extent, ExtentKind};
+use anhkhovet::{Access, Descriptor, Extent, ExtentKind, Header};
 use serde_json::{json, Value};
 use std::path::Path;
 
 /// What is told of a text.
 struct Told<'a> {
+    path: &'a Path,
     text: &'a Text,
     said: Descriptor,
-    /// Why the file of each extent cannot be used, or nothing; only of a text that is a file of its own.
-    files: Option<Vec<Option<Failure>>>,
+    /// The file of each extent; only of a text that is a file of its own.
+    files: Option<Vec<Beside>>,
 }
 
-/// Whether an extent's file is there; ZERO has none.
-fn missing(path: &Path, text: &Text, extent: &Extent) -> Option<Failure> {
-    let named = extent.kind != ExtentKind::Zero;
-    let found = named.then(|| beside::find(path, text.part(&extent.name)));
-    found?.err()
+/// Whether an extent's image was still open, where that can be read, or why its file cannot be used.
+type Beside = Result<Option<bool>, Failure>;
+
+/// ZERO has no file, plain sectors have no header, and the file of NOACCESS is not opened.
+fn look(path: &Path, text: &Text, extent: &Extent) -> Beside {
+    if extent.kind == ExtentKind::Zero {
+        return Ok(None);
+    }
+    let name = text.part(&extent.name);
+    beside::find(path, name)?;
+    match (extent.access, extent.kind) {
+        (Access::None, _) | (_, ExtentKind::Flat | ExtentKind::Vmfs) => Ok(None),
+        _ => Ok(open(path, name)),
+    }
+}
+
+/// Whether the image in a file was still open; nothing where that cannot be read.
+fn open(path: &Path, name: &[u8]) -> Option<bool> {
+    let file = beside::open(path, name).ok()?;
+    let open = still_open(ends(&file).ok()?.bytes());
+    file.same().ok()?;
+    open
 }
 
 impl<'a> Told<'a> {
-    fn of(path: &Path, text: &'a Text) -> Result<Told<'a>, Failure> {
+    fn of(path: &'a Path, text: &'a Text) -> Result<Told<'a>, Failure> {
         let said = anhkhovet::descriptor(&text.bytes).map_err(Failure::refused(path))?;
         let extents = said.extents.iter();
-        let beside = !text.embedded && !stream(path);
-        let files = beside.then(|| extents.map(|extent| missing(path, text, extent)).collect());
-        Ok(Told { text, said, files })
+        let beside = text.image.is_none() && !stream(path);
+        let files = beside.then(|| extents.map(|extent| look(path, text, extent)).collect());
+        Ok(Told {
+            path,
+            text,
+            said,
+            files,
+        })
+    }
+
+    /// Of the image that the text is inside of, or of those that it names and that are there; nothing where there is none.
+    fn still_open(&self) -> Option<bool> {
+        let around = self.text.image.as_ref().map(Header::still_open);
+        let named = self.files.iter().flatten().flatten().flatten();
+        named.copied().chain(around).max()
+    }
+
+    /// The images among the files of the extents that were still open.
+    fn open_extents(&self) -> OpenImages {
+        let files = self.files.iter().flatten().enumerate();
+        let open = files.filter(|(_, file)| matches!(file, Ok(Some(true))));
+        OpenImages::of(open.map(|(number, _)| {
+            let extent = &self.said.extents[number];
+            let file = beside::path(self.path, self.text.part(&extent.name));
+            let told = format!("{}: extent {number}: {}", name(self.path), name(&file));
+            (told, file)
+        }))
     }
 
     fn extent(&self, number: usize) -> Value {
         let extent = &self.said.extents[number];
         let mut object = said(self.text, extent);
         if let (Some(files), true) = (&self.files, extent.kind != ExtentKind::Zero) {
-            object["there"] = json!(files[number].is_none());
-            if let Some(failure) = &files[number] {
-                object["why"] = json!(failure.to_string());
+            object["there"] = json!(files[number].is_ok());
+            match &files[number] {
+                Ok(open) => still_open::put(&mut object, *open),
+                Err(failure) => object["why"] = json!(failure.to_string()),
             }
         }
         object
@@ -51,19 +96,20 @@ impl<'a> Told<'a> {
         let (text, said) = (self.text, &self.said);
         let extents = (0..said.extents.len()).map(|number| self.extent(number));
         let mut object = json!({
-            "embedded": text.embedded,
+            "embedded": text.image.is_some(),
             "version": said.version,
             "cid": format!("{:08x}", said.cid),
             "parent_cid": format!("{:08x}", said.parent_cid),
             "extents": extents.collect::<Vec<_>>(),
         });
         put_bytes(&mut object, "create_type", text.part(&said.create_type));
+        still_open::put(&mut object, self.still_open());
         object
     }
 
     fn lines(&self) -> String {
         let (text, said) = (self.text, &self.said);
-        let place = if text.embedded {
+        let place = if text.image.is_some() {
             "inside an image"
         } else {
             "a file of its own"
@@ -101,8 +147,8 @@ impl<'a> Told<'a> {
         if !extent.name.is_empty() {
             line += match self.files.as_ref().map(|files| &files[number]) {
                 None => " ",
-                Some(None) => " there     ",
-                Some(Some(_)) => " not there ",
+                Some(Ok(_)) => " there     ",
+                Some(Err(_)) => " not there ",
             };
             line += &shown(self.text.part(&extent.name));
         }
@@ -112,10 +158,16 @@ impl<'a> Told<'a> {
     /// Why files are not there.
     fn missing(&self) -> String {
         let files = self.files.iter().flatten().enumerate();
-        let told = files.filter_map(|(number, failure)| Some((number, failure.as_ref()?)));
+        let told = files.filter_map(|(number, file)| Some((number, file.as_ref().err()?)));
         told.map(|(number, failure)| format!("extent {number}: {failure}\n"))
             .collect()
     }
+}
+
+/// The image that a text is inside of, if it was still open.
+fn around(path: &Path, text: &Text) -> OpenImages {
+    let open = text.image.iter().filter(|header| header.still_open());
+    OpenImages::of(open.map(|_| (name(path), path.to_path_buf())))
 }
 
 pub fn describe(path: &Path, sector: Option<u64>, json: bool) -> Result<(), Failure> {
@@ -124,7 +176,9 @@ pub fn describe(path: &Path, sector: Option<u64>, json: bool) -> Result<(), Fail
     } else {
         Text::of_file(path)?
     };
+    around(path, &text).note();
     let told = Told::of(path, &text)?;
+    told.open_extents().note();
     let (mut lines, mut object) = (told.lines(), told.object());
     if let Some(sector) = sector {
         let found = anhkhovet::find(&told.said.extents, sector);

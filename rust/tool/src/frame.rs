@@ -5,6 +5,7 @@
 
 use crate::failure::Failure;
 use crate::layer::Layer;
+use crate::own::Own;
 use anhkhovet::{Area, Group, Refusal, SECTOR};
 use std::collections::HashSet;
 
@@ -42,8 +43,15 @@ pub fn copy(layer: &Layer, own: &mut [u8]) -> Result<Result<Vec<Area>, Refusal>,
     Err(Failure::changed(&layer.path))
 }
 
-/// Copies header and footer alone.
-pub fn copy_ends(layer: &Layer, own: &mut [u8]) -> Result<(), Failure> {
+/// Own bytes with header and footer alone.
+pub fn ends(layer: &Layer) -> Result<Own, Failure> {
+    let mut own = Own::new(layer.length() as usize)
+        .map_err(Failure::system(&layer.path, "is too long to be mapped"))?;
+    copy_ends(layer, own.bytes_mut())?;
+    Ok(own)
+}
+
+fn copy_ends(layer: &Layer, own: &mut [u8]) -> Result<(), Failure> {
     let length = own.len();
     layer.read(0, &mut own[..FIRST.min(length)])?;
     let last = length.saturating_sub(LAST);

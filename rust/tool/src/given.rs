@@ -6,8 +6,9 @@ use crate::files::{Files, Layers};
 use crate::grains::Grains;
 use crate::hash::Place;
 use crate::json::Object;
-use crate::names;
+use crate::names::{self, name};
 use crate::split::Split;
+use crate::still_open::{still_open, OpenImages};
 use anhkhovet::Located;
 use std::path::{Path, PathBuf};
 
@@ -27,12 +28,12 @@ pub struct Holder {
 impl Given {
     /// For answers on all sectors.
     pub fn open(paths: &[PathBuf]) -> Result<Given, Failure> {
-        Given::of(paths, Split::whole)
+        Given::of(paths, Split::whole)?.remarked()
     }
 
     /// For an answer on one sector.
     pub fn at(paths: &[PathBuf], sector: u64) -> Result<Given, Failure> {
-        Given::of(paths, |disk| Split::at(disk, sector))
+        Given::of(paths, |disk| Split::at(disk, sector))?.remarked()
     }
 
     /// A descriptor is a disk where it is handed in alone. Among several files it is taken for a layer, and refused as one.
@@ -48,6 +49,25 @@ impl Given {
             Opened::Image(file) => Layers::of(vec![file]).map(Given::Layers),
             Opened::Descriptor(disk) => split(disk).map(Given::Split),
         }
+    }
+
+    /// Tells of the images that were still open before all else, so that it stands beside a refusal too.
+    fn remarked(self) -> Result<Given, Failure> {
+        let open = self.open_images();
+        self.same()?;
+        open.note();
+        Ok(self)
+    }
+
+    pub fn open_images(&self) -> OpenImages {
+        let layers = match self {
+            Given::Layers(layers) => layers,
+            Given::Split(split) => return split.open_images(),
+        };
+        let open = |layer: &u64| still_open(layers.bytes(*layer)) == Some(true);
+        let open = (0..layers.count() as u64).filter(open);
+        let paths = open.map(|layer| layers.path(layer));
+        OpenImages::of(paths.map(|path| (name(path), path.to_path_buf())))
     }
 
     /// The paths of all that is read, or belongs to what is read.
@@ -133,11 +153,12 @@ impl Given {
         }
     }
 
-    /// The members that name the files: `files`, or `file` and `extents`.
+    /// The members that name the files, `files`, or `file` and `extents`, and those that say which images were still open.
     pub fn tell_files(&self, object: &mut Object) -> Result<(), Failure> {
         match self {
-            Given::Layers(layers) => names::files(object, layers.paths()),
-            Given::Split(split) => split.tell_files(object),
+            Given::Layers(layers) => object.members(names::listed("files", layers.paths()))?,
+            Given::Split(split) => split.tell_files(object)?,
         }
+        object.members(self.open_images().members())
     }
 }

@@ -67,6 +67,11 @@ impl Object<'_, '_> {
         self.0.serialize_entry(key, value).map_err(lost)
     }
 
+    pub fn members(&mut self, members: Vec<(String, Value)>) -> Result<(), Failure> {
+        let mut members = members.iter();
+        members.try_for_each(|(key, value)| self.member(key, value))
+    }
+
     /// A member that is a list: `make` hands over its items, one after the other.
     pub fn list(
         &mut self,

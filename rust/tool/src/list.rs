@@ -181,6 +181,7 @@ pub fn compare(paths: &[PathBuf], asked: &Asked, json: bool) -> Result<(), Failu
             object.list("differences", |take| {
                 comparison.run(&mut given, &mut |difference| take(&difference.object()))
             })?;
+            object.members(given.open_images().members())?;
             object.member("agree", &comparison.holds())?;
             object.member("compared", &comparison.lines)?;
             object.member("disk", &comparison.units)?;

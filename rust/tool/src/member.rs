@@ -4,6 +4,7 @@ use crate::described::Described;
 use crate::failure::{Failure, Refusal};
 use crate::files::{same, Files, Layers};
 use crate::source::file_sector;
+use crate::still_open::still_open;
 use anhkhovet::{Access, ExtentKind, Source, SECTOR};
 use std::ops::Range;
 
@@ -61,6 +62,11 @@ impl Member {
             Some(Judged::Image(size)) => Some(size),
             _ => None,
         }
+    }
+
+    /// Whether the disk was still open, where the file is an image.
+    pub fn still_open(&self) -> Option<bool> {
+        still_open(self.file.as_ref()?.bytes(0))
     }
 
     /// What the library's `split` says of a sector of this extent. Of the other files nothing decides, so none of their bytes

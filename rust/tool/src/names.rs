@@ -119,17 +119,14 @@ pub fn file(object: &mut Object, path: &Path) -> Result<(), Failure> {
     }
 }
 
-/// The members `files` and, where a name is not UTF-8, `files_bytes`.
-pub fn files<'a>(
-    object: &mut Object,
-    paths: impl Iterator<Item = &'a Path>,
-) -> Result<(), Failure> {
+/// The members of a list of files: the key and, where a name is not UTF-8, the one with `_bytes`.
+pub fn listed<'a>(key: &str, paths: impl Iterator<Item = &'a Path>) -> Vec<(String, Value)> {
     let names: Vec<&[u8]> = paths.map(|path| path.as_os_str().as_bytes()).collect();
     let strings: Vec<String> = names.iter().map(|name| string(name)).collect();
-    object.member("files", &strings)?;
+    let mut members = vec![(key.to_string(), json!(strings))];
     if names.iter().any(|name| str::from_utf8(name).is_err()) {
         let bytes: Vec<String> = names.iter().map(|name| hex(name)).collect();
-        object.member("files_bytes", &bytes)?;
+        members.push((format!("{key}_bytes"), json!(bytes)));
     }
-    Ok(())
+    members
 }

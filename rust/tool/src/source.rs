@@ -69,5 +69,8 @@ pub fn object(given: &Given, sector: u64, found: &Located) -> Value {
         object["size"] = json!(size);
         object["offset"] = json!(offset);
     }
+    for (key, value) in given.open_images().members() {
+        object[key] = value;
+    }
     object
 }

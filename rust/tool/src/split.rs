@@ -7,7 +7,8 @@ use crate::grains::Grains;
 use crate::hash::Place;
 use crate::json::Object;
 use crate::member::Member;
-use crate::names;
+use crate::names::{self, name};
+use crate::still_open::OpenImages;
 use anhkhovet::Located;
 use serde_json::{json, Value};
 use std::iter::once;
@@ -136,6 +137,18 @@ impl Split {
         }
     }
 
+    /// The images of these extents that were still open.
+    pub fn open_images(&self) -> OpenImages {
+        let open = |(member, _): &&(Member, usize)| member.still_open() == Some(true);
+        let members = self.members.iter().filter(open);
+        OpenImages::of(members.filter_map(|(member, _)| {
+            let path = self.disk.path(member.number)?;
+            let disk = name(&self.disk.file.path);
+            let told = format!("{disk}: extent {}: {}", member.number, name(&path));
+            Some((told, path))
+        }))
+    }
+
     /// All extents in words: the type, the grain size where it is an image, the file.
     pub fn lines(&self) -> String {
         let line = |(member, _): &(Member, usize)| {
@@ -146,7 +159,7 @@ impl Split {
                 None => String::new(),
             };
             let file = match self.disk.path(number) {
-                Some(path) => format!(": {}", names::name(&path)),
+                Some(path) => format!(": {}", name(&path)),
                 None => String::new(),
             };
             format!("extent {number} ({kind}{size}){file}\n")

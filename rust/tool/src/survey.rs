@@ -2,8 +2,9 @@
 
 use crate::cores::in_order;
 use crate::failure::{Failure, Status};
-use crate::files::Layers;
 use crate::hint::hinted;
+use crate::judged::Judged;
+use crate::layer::Layer;
 use crate::names::put_name;
 use crate::print;
 use crate::progress::Progress;
@@ -15,7 +16,7 @@ use std::collections::BTreeMap;
 use std::path::{Path, PathBuf};
 
 /// What a file has, or why that is not known.
-pub type Row = Result<(Disk, Counts), Failure>;
+pub type Row = Judged<(Disk, Counts)>;
 
 /// What all files have together.
 #[derive(Default)]
@@ -33,7 +34,7 @@ pub struct Totals {
 impl Totals {
     fn add(&mut self, row: &Row) {
         self.files += 1;
-        match row {
+        match &row.verdict {
             Ok((disk, counts)) => {
                 self.accepted += 1;
                 self.capacity += disk.capacity;
@@ -75,14 +76,11 @@ fn numbers(capacity: u64, counts: &Counts) -> Value {
 }
 
 fn object(path: &Path, row: &Row) -> Value {
-    let mut object = match row {
-        Ok((disk, counts)) => {
-            let mut accepted = numbers(disk.capacity, counts);
-            accepted["grain_size"] = json!(disk.grain_size);
-            json!({ "accepted": accepted })
-        }
-        Err(failure) => failure.json(),
-    };
+    let mut object = row.object(|(disk, counts)| {
+        let mut accepted = numbers(disk.capacity, counts);
+        accepted["grain_size"] = json!(disk.grain_size);
+        accepted
+    });
     put_name(&mut object, "file", path);
     object
 }
@@ -95,10 +93,10 @@ pub fn counted(image: &[u8]) -> Result<(Disk, Counts), Refusal> {
 }
 
 fn one(path: &Path) -> Row {
-    let mut layers = Layers::one(path)?;
-    let row = layers.ask(0, counted)?;
-    layers.same()?;
-    row.map_err(Failure::refused(path)).map_err(hinted)
+    let file = Layer::open(path);
+    let mut row = file.map_or_else(Row::from, |file| Row::of(file, counted));
+    row.verdict = row.verdict.map_err(hinted);
+    row
 }
 
 /// Each file by itself, on all cores: no more are open at a time. Rows are taken in the order of the files.

@@ -30,11 +30,13 @@ impl Table {
 
     pub fn image(&mut self, path: &Path, row: &Row) {
         let name = cell(path);
-        self.0.push(match row {
+        let mut line = match &row.verdict {
             Ok((disk, counts)) => full(name, disk.capacity, counts, "accepted".to_string()),
             Err(failure @ Failure::Refused(_)) => empty(name, failure.reason()),
             Err(failure) => empty(name, format!("not read: {}", failure.reason())),
-        });
+        };
+        line[LAST] += row.remark();
+        self.0.push(line);
     }
 
     /// The rows, the totals of accepted images, and how many images each number refuses.

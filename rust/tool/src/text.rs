@@ -1,11 +1,10 @@
 //! A descriptor's text: where it stands, and whether a file is one.
 
 use crate::failure::Failure;
-use crate::frame::copy_ends;
+use crate::frame::ends;
 use crate::layer::Layer;
-use crate::own::Own;
 use crate::streams;
-use anhkhovet::SECTOR;
+use anhkhovet::{Header, SECTOR};
 use std::io::Read;
 use std::ops::Range;
 use std::path::Path;
@@ -16,26 +15,30 @@ const MOST: u64 = 65_537;
 /// As many bytes has a magic.
 const MAGIC: u64 = 4;
 
-/// A descriptor's text, and whether it is inside an image.
+/// A descriptor's text, and the header of the image that it is inside of, if it is in one.
 pub struct Text {
     pub bytes: Vec<u8>,
-    pub embedded: bool,
+    pub image: Option<Header>,
 }
 
 impl Text {
     pub fn of_file(path: &Path) -> Result<Text, Failure> {
         let layer = Layer::open(path)?;
-        let mut bytes = start(&layer, MOST)?;
-        let embedded = !is_text(&bytes);
-        if embedded {
-            // Header and footer decide where the text is: nothing else is read.
-            let mut own = Own::new(layer.length() as usize)
-                .map_err(Failure::system(path, "is too long to be mapped"))?;
-            copy_ends(&layer, own.bytes_mut())?;
-            bytes = layer.part(inside(path, own.bytes())?)?;
-        }
+        let text = match start(&layer, MOST)? {
+            bytes if is_text(&bytes) => Text { bytes, image: None },
+            _ => Text::of_image(&layer)?,
+        };
         layer.same()?;
-        Ok(Text { bytes, embedded })
+        Ok(text)
+    }
+
+    /// Header and footer decide where the text is: nothing else is read.
+    fn of_image(layer: &Layer) -> Result<Text, Failure> {
+        let own = ends(layer)?;
+        let header = anhkhovet::header(own.bytes()).map_err(Failure::refused(&layer.path))?;
+        let bytes = layer.part(inside(&layer.path, &header, own.bytes())?)?;
+        let image = Some(header);
+        Ok(Text { bytes, image })
     }
 
     pub fn of_input(path: &Path) -> Result<Text, Failure> {
@@ -44,8 +47,7 @@ impl Text {
             .and_then(|input| input.take(MOST).read_to_end(&mut bytes))
             .map_err(Failure::system(path, "cannot be read"))?;
         if is_text(&bytes) {
-            let embedded = false;
-            return Ok(Text { bytes, embedded });
+            return Ok(Text { bytes, image: None });
         }
         Err(Failure::Misused(
             path.to_path_buf(),
@@ -65,7 +67,7 @@ pub fn of_descriptor(file: &Layer) -> Result<Option<Text>, Failure> {
     }
     let text = Text {
         bytes: start(file, MOST)?,
-        embedded: false,
+        image: None,
     };
     Ok(Some(text).filter(|text| begins(&text.bytes)))
 }
@@ -95,8 +97,7 @@ fn begins(text: &[u8]) -> bool {
 }
 
 /// Where the text stands inside an image.
-fn inside(path: &Path, image: &[u8]) -> Result<Range<u64>, Failure> {
-    let header = anhkhovet::header(image).map_err(Failure::refused(path))?;
+fn inside(path: &Path, header: &Header, image: &[u8]) -> Result<Range<u64>, Failure> {
     let (first, sectors) = (header.descriptor, header.descriptor_sectors);
     if first == 0 && sectors == 0 {
         return Err(Failure::Lacking(

@@ -4,51 +4,61 @@ use crate::described::Described;
 use crate::failure::{Failure, Status};
 use crate::files::same;
 use crate::grains::Grains;
+use crate::judged::Judged;
 use crate::member::Member;
 use crate::names::name;
+use crate::still_open;
 use serde_json::{json, Value};
 
 /// A longer name moves its own line alone.
 const LONGEST_NAME: usize = 48;
 
 /// The grain size, where the extent is an image.
-type Verdict = Result<Option<u64>, Failure>;
+type Verdict = Judged<Option<u64>>;
 
 pub struct Verdicts {
     disk: Described,
     all: Vec<Verdict>,
 }
 
-fn judged(disk: &Described, extent: usize) -> Result<Member, Failure> {
+/// An extent with its file, once the library has judged it, and what it is refused for.
+type Extent = Result<(Member, Result<(), Failure>), Failure>;
+
+fn judged(disk: &Described, extent: usize) -> Extent {
     let mut member = Member::open(disk, extent)?;
-    member.judge(disk)?;
-    Ok(member)
+    let judged = member.judge(disk);
+    Ok((member, judged))
 }
 
 /// The verdict on an extent, if its file is still what was judged.
-fn verdict(disk: &Described, (extent, judged): (usize, Result<Member, Failure>)) -> Verdict {
-    let size = judged.and_then(|member| {
-        same(&member.files())?;
-        Ok(member.grain_size())
-    });
-    size.map_err(disk.blamed(extent))
+fn verdict(disk: &Described, (number, extent): (usize, Extent)) -> Verdict {
+    let (size, open) = match extent {
+        Ok((member, judged)) => {
+            let size = judged.and_then(|()| same(&member.files()));
+            (size.map(|()| member.grain_size()), member.still_open())
+        }
+        Err(failure) => (Err(failure), None),
+    };
+    Judged::new(size.map_err(disk.blamed(number)), open)
 }
 
-fn told(verdict: &Verdict) -> String {
-    match verdict.as_ref().map_err(Failure::of_extent) {
+fn told(judged: &Verdict) -> String {
+    let verdict = match judged.verdict.as_ref().map_err(Failure::of_extent) {
         Ok(Some(size)) => format!("accepted, grain size {size}"),
         Ok(None) => "accepted".to_string(),
         Err(failure @ Failure::Refused(_)) => failure.reason(),
         Err(failure) => format!("not read: {}", failure.reason()),
-    }
+    };
+    verdict + judged.remark()
 }
 
-fn put(object: &mut Value, verdict: &Verdict) {
-    match verdict.as_ref().map_err(Failure::of_extent) {
+fn put(object: &mut Value, judged: &Verdict) {
+    match judged.verdict.as_ref().map_err(Failure::of_extent) {
         Ok(size) => object["accepted"] = json!({ "grain_size": size }),
         Err(Failure::Refused(refusal)) => object["refused"] = refusal.json(),
         Err(failure) => object["failed"] = json!(failure.to_string()),
     }
+    still_open::put(object, judged.still_open);
 }
 
 impl Verdicts {
@@ -68,7 +78,13 @@ impl Verdicts {
     }
 
     fn failures(&self) -> impl Iterator<Item = &Failure> {
-        self.all.iter().filter_map(|verdict| verdict.as_ref().err())
+        let verdicts = self.all.iter().map(|judged| &judged.verdict);
+        verdicts.filter_map(|verdict| verdict.as_ref().err())
+    }
+
+    /// Whether one of the images was still open; nothing where there is none.
+    fn still_open(&self) -> Option<bool> {
+        self.all.iter().filter_map(|judged| judged.still_open).max()
     }
 
     /// None where every extent is accepted.
@@ -83,7 +99,7 @@ impl Verdicts {
             .collect();
         let widest = files.iter().map(|file| file.chars().count()).max();
         let width = widest.unwrap_or(0).clamp("file".len(), LONGEST_NAME);
-        let mut lines = self.summary();
+        let mut lines = self.summary() + still_open::remark(self.still_open()) + "\n";
         lines += &format!(
             "extent        first      sectors access   type       {:<width$}  verdict\n",
             "file"
@@ -107,7 +123,7 @@ impl Verdicts {
         let of = if extents == 1 { "extent" } else { "extents" };
         if self.status().is_none() {
             let capacity = self.capacity();
-            return format!("{file}: accepted, capacity {capacity} sectors in {extents} {of}\n");
+            return format!("{file}: accepted, capacity {capacity} sectors in {extents} {of}");
         }
         let refused = |failure: &&Failure| failure.status() == Status::Refused;
         let refused = self.failures().filter(refused).count();
@@ -115,7 +131,7 @@ impl Verdicts {
             0 => String::new(),
             unread => format!(", {unread} not read"),
         };
-        format!("{file}: not accepted, of {extents} {of} {refused} refused{unread}\n")
+        format!("{file}: not accepted, of {extents} {of} {refused} refused{unread}")
     }
 
     fn file(&self, extent: usize) -> String {
@@ -135,11 +151,12 @@ impl Verdicts {
             object
         });
         object["extents"] = extents.collect();
+        still_open::put(&mut object, self.still_open());
         object
     }
 
     fn accepted(&self) -> Value {
-        let sizes = self.all.iter().flatten();
+        let sizes = self.all.iter().flat_map(|judged| &judged.verdict);
         let sectors = self.disk.extents.iter().map(|extent| extent.sectors);
         let cut = Grains::of_extents(&sectors.zip(sizes.copied()).collect::<Vec<_>>());
         json!({ "accepted": { "capacity": cut.capacity(), "grain_size": cut.size() } })

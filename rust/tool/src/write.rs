@@ -11,6 +11,7 @@ use crate::output::{Mapped, Output};
 use crate::print;
 use crate::progress::Progress;
 use crate::room::Room;
+use crate::still_open::{still_open, STILL_OPEN};
 use serde_json::json;
 use std::path::{Path, PathBuf};
 
@@ -88,6 +89,18 @@ fn blamed(why: anhkhovet::Refusal, lower: (&Path, &[u8]), upper: (&Path, &[u8]))
     refusal
 }
 
+/// The lowest image that was still open, which is one of the refused pair, and the others that are to be copied again too.
+fn left_open(why: anhkhovet::Refusal, images: &[Layers]) -> Refusal {
+    let open = |image: &&Layers| still_open(image.bytes(0)) == Some(true);
+    let mut open = images.iter().filter(open).map(|image| image.path(0));
+    let mut refusal = Refusal::new(why, open.next());
+    let others: Vec<String> = open.map(name).collect();
+    if !others.is_empty() {
+        refusal.detail = format!("still open too: {}", others.join(", "));
+    }
+    refusal
+}
+
 /// Judges the images pair by pair, lowest first.
 fn judged(images: &mut [Layers]) -> Result<(), Failure> {
     for image in &mut *images {
@@ -97,8 +110,11 @@ fn judged(images: &mut [Layers]) -> Result<(), Failure> {
     for pair in images.windows(2) {
         let [lower, upper] = [&pair[0], &pair[1]].map(|image| (image.path(0), image.bytes(0)));
         if let Some(why) = refusal(anhkhovet::collapse(lower.1, upper.1, &mut [])) {
-            pair.iter().try_for_each(Layers::same)?;
-            return Err(Failure::Refused(blamed(why, lower, upper)));
+            images.iter().try_for_each(Layers::same)?;
+            return Err(Failure::Refused(match why.number {
+                STILL_OPEN => left_open(why, images),
+                _ => blamed(why, lower, upper),
+            }));
         }
     }
     Ok(())

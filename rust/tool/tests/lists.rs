@@ -75,7 +75,7 @@ fn a_part_of_a_list_and_other_forms_agree() {
         let ran = compare(&folder, FILES[0], list, &["--json"]);
         assert_eq!(
             ran.well().text(),
-            "{\"differences\":[],\"agree\":true,\"compared\":1,\"disk\":2048,\"left_out\":2047,\"of\":\"sector\"}\n"
+            "{\"differences\":[],\"still_open\":false,\"agree\":true,\"compared\":1,\"disk\":2048,\"left_out\":2047,\"of\":\"sector\"}\n"
         );
     }
 }
@@ -94,7 +94,7 @@ fn what_is_left_out_is_a_failure_if_the_list_is_to_be_complete() {
         list.as_bytes(),
         &["--complete", "--json"],
     );
-    fails(&ran, &["{\"differences\":[],\"agree\":false,\"compared\":2,\"disk\":2048,\"left_out\":2046,\"of\":\"sector\"}"]);
+    fails(&ran, &["{\"differences\":[],\"still_open\":false,\"agree\":false,\"compared\":2,\"disk\":2048,\"left_out\":2046,\"of\":\"sector\"}"]);
     // A packed grain's line stands for all of its sectors.
     let packed = printed(&folder, FILES[1], &[]);
     let line = packed.lines().nth(128).expect("a line");
@@ -129,7 +129,7 @@ fn all_differences_are_told() {
         format!("{{\"found\":\"{found}\",\"kind\":\"digest\",\"line\":{line},\"listed\":\"{ZEROS}\",\"sector\":{sector},\"sentence\":\"line {line}: {sentence}\"}}")
     };
     let (first, second) = (object(11, 0), object(12, 1));
-    let rest = "\"agree\":false,\"compared\":12,\"disk\":2048,\"left_out\":2036,\"of\":\"sector\"";
+    let rest = "\"still_open\":false,\"agree\":false,\"compared\":12,\"disk\":2048,\"left_out\":2036,\"of\":\"sector\"";
     fails(
         &compare(&folder, FILES[0], list.as_bytes(), &["--json"]),
         &[&format!("{{\"differences\":[{first},{second}],{rest}}}")],

@@ -115,8 +115,7 @@ fn mapped(runs: &Value, sector: u64) -> Value {
         _ => {}
     }
     let run = run.as_object_mut().expect("an object");
-    run.remove("first");
-    run.remove("sectors");
+    run.retain(|key, _| key != "first" && key != "sectors");
     Value::Object(run.clone())
 }
 
@@ -129,7 +128,8 @@ fn map_and_sector_agree() {
     for sector in (0..CAPACITY).step_by(61).chain(edges) {
         let one = told(&folder, &format!("sector --json all {sector}"));
         let mut one: Value = serde_json::from_str(&one).expect("JSON");
-        one.as_object_mut().expect("an object").remove("file");
+        let members = one.as_object_mut().expect("an object");
+        members.retain(|key, _| key != "file" && key != "still_open");
         assert_eq!(one, mapped(&runs, sector), "{sector}");
     }
 }

@@ -5,6 +5,8 @@
 //! the exit status where it is not 0.
 
 mod common;
+#[path = "common/dirty.rs"]
+mod dirty;
 #[path = "common/disks.rs"]
 mod disks;
 
@@ -12,7 +14,7 @@ use common::{run, Folder};
 use std::fs;
 use std::path::Path;
 
-const SAMPLES: [&str; 10] = [
+const SAMPLES: [&str; 11] = [
     "cowd-s001.vmdk",
     "delta.vmdk",
     "monolithic-sparse.vmdk",
@@ -22,6 +24,7 @@ const SAMPLES: [&str; 10] = [
     "tool-packed.vmdk",
     "tool-top.vmdk",
     "two-gb-sparse.vmdk",
+    "vmdkstream.vmdk",
     "zeroed-grain.vmdk",
 ];
 
@@ -84,6 +87,7 @@ fn transcript(name: &str) {
     let stored = fs::read_to_string(&path).expect("a transcript");
     let folder = Folder::new().with(&SAMPLES);
     disks::add(&folder);
+    dirty::add(&folder);
     add_files(&folder);
 
     let mut now = String::new();
@@ -125,4 +129,4 @@ macro_rules! transcripts {
     };
 }
 
-transcripts!(check survey sector read map digest collapse normal describe refusals split);
+transcripts!(check survey sector read map digest collapse normal describe refusals split still_open);

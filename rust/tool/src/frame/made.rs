@@ -187,7 +187,10 @@ impl Made {
         for number in [redundant, at_end, 0] {
             head.extend(number.to_le_bytes());
         }
-        head.extend(b"\0\n \r\n");
+        // Mostly the disk was not open any more.
+        let dirty = self.chance.below(256) * u64::from(self.chance.once_in(4));
+        head.push(dirty as u8);
+        head.extend(b"\n \r\n");
         head.extend(u16::from(form.packed).to_le_bytes());
         head.resize(512, 0);
         self.put(0, &head);

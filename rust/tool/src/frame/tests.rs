@@ -3,6 +3,7 @@
 use crate::failure::Failure;
 use crate::files::Layers;
 use crate::frame::made::image;
+use crate::still_open::STILL_OPEN;
 use crate::survey::counted;
 use anhkhovet::{ChainRefusal, Group, Refusal, Source};
 use std::fs;
@@ -56,11 +57,17 @@ struct Met {
     /// Sectors of a packed grain at sector 1, which an entry of 1 names.
     at_one: u64,
     chains: u64,
+    /// Images that were still open, and those of them that have no normal form for it.
+    open: u64,
+    unfinished: u64,
 }
 
 impl Met {
     fn judged(&mut self, path: &Path, whole: &[u8]) {
         let mut layers = Layers::one(path).expect("layers");
+        let header = anhkhovet::header(whole);
+        assert_eq!(anhkhovet::header(layers.bytes(0)), header, "{path:?}");
+        self.open += u64::from(header.map_or(false, |header| header.still_open()));
         let told = layers.ask(0, anhkhovet::check).expect("a file");
         assert_eq!(told, anhkhovet::check(whole), "{path:?}");
         match told {
@@ -77,6 +84,8 @@ impl Met {
         let told = layers.ask(0, |image| anhkhovet::normal(image, &mut []));
         let wanted = anhkhovet::normal(whole, &mut []);
         assert_eq!(told.expect("a file"), wanted, "{path:?}");
+        let unfinished = matches!(wanted, Err(refusal) if refusal.number == STILL_OPEN);
+        self.unfinished += u64::from(unfinished);
     }
 
     fn located(&mut self, path: &Path, whole: &[u8]) {
@@ -139,5 +148,7 @@ fn own_bytes_answer_as_the_whole_file() {
             && met.packed > 1000
             && met.at_one > 100
             && met.chains > 1000
+            && met.open > 100
+            && met.unfinished > 10
     );
 }

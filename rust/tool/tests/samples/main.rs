@@ -1,6 +1,7 @@
 //! The samples: every sector of each is looked up and read through the proved library, and compared with what qemu-img said
 //! and read (samples/make stores it).
 
+mod dirty;
 mod disk;
 mod map;
 mod raw;
