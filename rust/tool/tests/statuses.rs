@@ -10,13 +10,17 @@ use std::process::{Command, Stdio};
 
 const FILES: [&str; 3] = ["tool-base.vmdk", "tool-middle.vmdk", "two-gb-sparse.vmdk"];
 
-/// The samples, of which one is a descriptor without its extent's file, a list that holds and one that does not.
+/// The samples, of which one is a descriptor without its extent's file, one that was still open, a list that holds and one that
+/// does not.
 fn folder() -> Folder {
     let folder = Folder::new().with(&FILES);
     let digests = run(folder.path(), &["digest", "tool-base.vmdk"]);
     fs::write(folder.at("holds"), &digests.well().out).expect("written");
     let other = digests.text().replacen("0 32", "0 33", 1);
     fs::write(folder.at("differs"), other).expect("written");
+    let mut open = fs::read(folder.at(FILES[0])).expect("a sample");
+    open[72] = 1;
+    fs::write(folder.at("open"), open).expect("written");
     folder
 }
 
@@ -32,12 +36,17 @@ fn each_status_has_its_meaning() {
         ("check tool-base.vmdk", 0),
         ("digest tool-base.vmdk --list holds", 0),
         ("survey two-gb-sparse.vmdk", 0),
+        ("check open", 0),
+        ("map open tool-middle.vmdk", 0),
+        ("digest open --list holds", 0),
         ("check holds", 1),
         ("map holds", 1),
         ("map tool-base.vmdk two-gb-sparse.vmdk", 1),
         ("sector tool-base.vmdk 2048", 1),
         ("collapse tool-base.vmdk two-gb-sparse.vmdk -o out", 1),
         ("describe holds", 1),
+        ("normal open -o out", 1),
+        ("collapse tool-middle.vmdk open -o out", 1),
         ("check", 2),
         ("survey", 2),
         ("survey -", 2),
@@ -170,6 +179,9 @@ fn a_standard_error_that_is_closed_or_full_changes_no_status() {
         "frobnicate",
         "digest tool-base.vmdk --list differs",
         "sector tool-base.vmdk 2",
+        "sector open 2",
+        "describe open",
+        "normal open -o out",
         "normal missing -o out",
     ] {
         let plain = run(folder.path(), &words.split(' ').collect::<Vec<_>>());
