@@ -22,7 +22,7 @@ fn not_collapsible(h: Header) -> bool
     h.cowd | h.packed
 }
 
-// Any number but 0, as some writers have others than 1.
+// Any number but 0.
 fn still_open(h: Header) -> bool
     ensures { λ r. ⌜ r ≡ stillOpen h ⌝ }
 {

@@ -70,8 +70,8 @@ place NotCollapsible = 0
 place LayerLengths = 0
 place StillOpen = 0
 
--- ---- a header alone: the descriptor's numbers as it has them, 0 for COWD, and the dirty number. They are not judged: 8 and 27
--- are no rules of the header
+-- ---- a header alone: the descriptor's numbers as it has them, 0 for COWD, and of either kind the dirty number. None is judged
+-- here: 8 and 27 are no rules of the header
 abbrev pub headerNumbers : HeaderAnswer → Head
 headerNumbers (Known h) = record {
   number = 0;

@@ -209,7 +209,7 @@ pub struct Surveyed {
     pub packed: u64,
 }
 
-// A header judged alone, with the descriptor's and the dirty number as it has them.
+// A header judged alone, with the descriptor's numbers and the dirty number as it has them.
 #[repr(C)]
 pub struct Head {
     pub number: u64,

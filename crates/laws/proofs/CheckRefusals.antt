@@ -1,4 +1,4 @@
--- A check refuses with 1 to 12 and no other number.
+-- A check refuses with no number over 12.
 use Prim.Native.Nat.{ℕ, _≤_}
 use mathlib.Core.Path.{_≡_}
 use mathlib.Core.List.{List}

@@ -1,4 +1,4 @@
--- Collapse and normal form of accepted, uncompressed KDMV images: demand 3, but for sectors and pairings.
+-- Collapse and normal form of accepted, uncompressed, clean KDMV images: demand 3, but for sectors and pairings.
 use Prim.Native.Nat.{ℕ, _<_}
 use mathlib.Core.Path.{_≡_, sym, _∙_}
 use mathlib.Core.List.{List}

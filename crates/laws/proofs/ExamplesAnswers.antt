@@ -6,7 +6,7 @@ use Rattle.format.specs.Answers.{number, place, headerNumbers, verdict, located
 use Rattle.format.specs.declared.Refusal.{Refusal}
 use Rattle.format.specs.declared.Refusal.the-variants.{TooShort, Magic, Version, Newline, Flags, Sizes, Footer, Misplaced}
 use Rattle.format.specs.declared.Refusal.the-variants.{GrainPast, Marker, CopiesDiffer, SharedSector, SectorPast}
-use Rattle.format.specs.declared.Refusal.the-variants.{TooLittleRoom, LayersDiffer, NotCollapsible, LayerLengths}
+use Rattle.format.specs.declared.Refusal.the-variants.{TooLittleRoom, LayersDiffer, NotCollapsible, LayerLengths, StillOpen}
 use Rattle.format.specs.declared.Source.the-variants.{Absent, Zero, Stored, Packed}
 use Rattle.format.specs.declared.HeaderAnswer.{HeaderAnswer}
 use Rattle.format.specs.declared.HeaderAnswer.the-variants.{Known, Refused as unknown}
@@ -18,13 +18,13 @@ use Rattle.format.specs.declared.CollapseAnswer.{CollapseAnswer}
 use Rattle.format.specs.declared.CollapseAnswer.the-variants.{Written as writtenTo, Refused as notWritten}
 use Rattle.format.specs.declared.Located.{Located}
 use Rattle.laws.specs.Examples.{Example, example, Hold}
-use Rattle.laws.specs.Images.{plainHeader}
+use Rattle.laws.specs.Images.{plainHeader, openHeader}
 
 -- ---- an answer's values in the order of the C face
 abbrev headed : HeaderAnswer → List ℕ
 headed a =
     let v = headerNumbers a in
-    v .number ∷ v .place ∷ v .capacity ∷ v .«grain_size» ∷ v .descriptor ∷ v .«descriptor_sectors» ∷ []
+    v .number ∷ v .place ∷ v .capacity ∷ v .«grain_size» ∷ v .descriptor ∷ v .«descriptor_sectors» ∷ v .dirty ∷ []
 
 abbrev checked : CheckAnswer → List ℕ
 checked a = let v = verdict a in v .number ∷ v .place ∷ v .capacity ∷ v .«grain_size» ∷ []
@@ -55,15 +55,17 @@ refusals =
     ∷ LayersDiffer
     ∷ NotCollapsible
     ∷ LayerLengths
+    ∷ StillOpen
     ∷ []
 
 abbrev answers : List (Example (List ℕ))
 answers =
-    example (map number refusals) (1 ∷ 2 ∷ 3 ∷ 4 ∷ 5 ∷ 6 ∷ 7 ∷ 8 ∷ 9 ∷ 10 ∷ 11 ∷ 12 ∷ 20 ∷ 21 ∷ 22 ∷ 23 ∷ 24 ∷ [])
-    ∷ example (map place refusals) (0 ∷ 0 ∷ 0 ∷ 0 ∷ 0 ∷ 0 ∷ 0 ∷ 0 ∷ 31 ∷ 32 ∷ 0 ∷ 0 ∷ 0 ∷ 0 ∷ 0 ∷ 0 ∷ 0 ∷ [])
-    -- a header: capacity, grain size, the descriptor's sector and sectors
-    ∷ example (headed (Known (plainHeader 19 7 1 0))) (0 ∷ 0 ∷ 16 ∷ 8 ∷ 19 ∷ 7 ∷ [])
-    ∷ example (headed (unknown Footer)) (7 ∷ 0 ∷ 0 ∷ 0 ∷ 0 ∷ 0 ∷ [])
+    example (map number refusals) (1 ∷ 2 ∷ 3 ∷ 4 ∷ 5 ∷ 6 ∷ 7 ∷ 8 ∷ 9 ∷ 10 ∷ 11 ∷ 12 ∷ 20 ∷ 21 ∷ 22 ∷ 23 ∷ 24 ∷ 27 ∷ [])
+    ∷ example (map place refusals) (0 ∷ 0 ∷ 0 ∷ 0 ∷ 0 ∷ 0 ∷ 0 ∷ 0 ∷ 31 ∷ 32 ∷ 0 ∷ 0 ∷ 0 ∷ 0 ∷ 0 ∷ 0 ∷ 0 ∷ 0 ∷ [])
+    -- a header: capacity, grain size, the descriptor's sector and sectors, dirty
+    ∷ example (headed (Known (plainHeader 19 7 1 0))) (0 ∷ 0 ∷ 16 ∷ 8 ∷ 19 ∷ 7 ∷ 0 ∷ [])
+    ∷ example (headed (Known (openHeader 32 8 5))) (0 ∷ 0 ∷ 32 ∷ 8 ∷ 0 ∷ 0 ∷ 5 ∷ [])
+    ∷ example (headed (unknown Footer)) (7 ∷ 0 ∷ 0 ∷ 0 ∷ 0 ∷ 0 ∷ 0 ∷ [])
     -- the check: capacity, grain size
     ∷ example (checked (Accepted 200 128)) (0 ∷ 0 ∷ 200 ∷ 128 ∷ [])
     ∷ example (checked (unaccepted (GrainPast 3))) (9 ∷ 3 ∷ 0 ∷ 0 ∷ [])

@@ -1,4 +1,4 @@
--- Collapse and normal form: refusals 23, 22 and 21, the output, and the parts of the layout byte by byte.
+-- Collapse and normal form: refusals 23, 22, 27 and 21, the output, and the parts of the layout byte by byte.
 use Prim.Native.Nat.{ℕ, zero, suc}
 use mathlib.Core.List.{List, [], _∷_, _++_}
 use mathlib.Core.Path.{refl}

@@ -52,7 +52,7 @@ module _ {c size : ℕ} where
       let u = from-image k (rw (same .0, same .1) at (both .1)) in
       together (layersOf below) _ l u
 
--- so where two layers or more were run, all were of one capacity and grain size, accepted, KDMV and uncompressed
+-- so where two layers or more were run, all were of one capacity and grain size, accepted, KDMV, uncompressed and clean
 pub run-layers : {below above : Pairing} {o : Outputs (pair below above)} {image : List ℕ} → Run (pair below above) o image
     → (c : ℕ) × (size : ℕ) × Every (Layer c size) (layersOf (pair below above))
 unfolding layersOf

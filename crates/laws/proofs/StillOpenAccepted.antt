@@ -28,7 +28,7 @@ use Rattle.format.specs.declared.CheckAnswer.the-variants.{Accepted as accepts}
 use Rattle.format.proofs.Areas.{holds-in}
 use Rattle.format.proofs.HeaderCowd.{cowd-magic}
 use Rattle.format.proofs.HeaderJudged.{judged-header}
-use Rattle.laws.specs.StillOpen.{SameBut, SameButFooter}
+use Rattle.laws.specs.StillOpen.{SameBut, SameButTwice}
 use Rattle.laws.proofs.AcceptedImage.{accepted-sound}
 use Rattle.laws.proofs.ServedSectors.{accepted-good}
 use Rattle.laws.proofs.StillOpenUsed.{SameElse, else-check, else-lookup, else-frame, else-list, else-row}
@@ -94,7 +94,7 @@ ends-held s m e x (inl z) = rw m (omega (arith, holds-in (area 0 1) x (omega ari
 ends-held s m e x (inr z) =
     rw (m, e) (omega (arith, holds-in (area (fileSectors s - 2) 1) x (omega arith) (omega arith)))
 
-module _ (s t : List ℕ) (both : SameButFooter s t) (magic : sameAt s 0 kdmvMagic ≡ true) (end : atEnd (kdmvFields s) ≡ true)
+module _ (s t : List ℕ) (both : SameButTwice s t) (magic : sameAt s 0 kdmvMagic ≡ true) (end : atEnd (kdmvFields s) ≡ true)
     (capacity grainSize : ℕ) (accepted : check s ≡ accepts capacity grainSize) where
   rules : FooterRules s
   rules = footer-rules s (accepted-sound s capacity grainSize accepted .0) magic end

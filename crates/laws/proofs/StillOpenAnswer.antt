@@ -18,13 +18,13 @@ use Rattle.format.specs.declared.CheckAnswer.the-variants.{Accepted, Refused as
 use Rattle.format.specs.declared.CollapseAnswer.{CollapseAnswer}
 use Rattle.format.specs.declared.CollapseAnswer.the-variants.{Written, Refused}
 use Rattle.format.proofs.Picked.{pick-then, pick-else, passed}
-use Rattle.laws.specs.StillOpen.{Checked, OpenImage, OpenImages}
+use Rattle.laws.specs.StillOpen.{SomeAccepted, OpenImage, OpenImages}
 use Rattle.laws.proofs.CheckRefusals.{check-refuses}
 
 -- ---- the steps to an answer of 27
 -- it is no answer of a check
 was-checked : (s : List ℕ) (a : CheckAnswer) (b : CollapseAnswer) → check s ≡ a → ifAccepted a b ≡ Refused StillOpen
-    → (Checked s) × (b ≡ Refused StillOpen)
+    → (SomeAccepted s) × (b ≡ Refused StillOpen)
 unfolding ifAccepted
 was-checked s (unaccepted r) b e q =
     let is : r ≡ StillOpen = cc in let early = check-refuses s StillOpen (rw is at e) in absurd (omega arith)

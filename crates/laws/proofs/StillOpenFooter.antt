@@ -14,14 +14,14 @@ use Rattle.format.specs.Kdmv.{footerAt, lastAt, footerDirectory, footerBroken}
 use Rattle.format.specs.Accepted.{FooterRules}
 use Rattle.format.proofs.HeaderFooter.{kept-footer}
 use Rattle.laws.specs.SameFrame.{SameBytes}
-use Rattle.laws.specs.StillOpen.{SameButFooter}
+use Rattle.laws.specs.StillOpen.{SameButTwice}
 use Rattle.laws.proofs.SameBytes.{number-same, part-same}
 
 -- byte i of a part
 part-at : (s : List ℕ) (at n i : ℕ) → i < n → getD (bytesAt s at n) i 0 ≡ getD s (at + i) 0
 part-at s at n i l = getD-take n (drop at s) i 0 l ∙ getD-drop at s i 0
 
-module _ (s t : List ℕ) (both : SameButFooter s t) (rules : FooterRules s) where
+module _ (s t : List ℕ) (both : SameButTwice s t) (rules : FooterRules s) where
   -- the bytes from `at` on, where neither of the two is among them
   pub spared : (at n : ℕ) → ((i : ℕ) → at ≤ i → i < at + n → (i ≡ 72 → ⊥) × (i ≡ footerAt s + 72 → ⊥)) → SameBytes s t at n
   spared at n other i l b = both .same i (other i l b .0) (other i l b .1)

@@ -18,26 +18,27 @@ pub record SameBut (s t : List ℕ) (at n : ℕ) : Type 0 where
   pub before : (i : ℕ) → i < at → getD s i 0 ≡ getD t i 0
   pub after : (i : ℕ) → at + n ≤ i → getD s i 0 ≡ getD t i 0
 
--- length and every byte but byte 72 of sector 0 and of the footer; there the second image has one number
-pub record SameButFooter (s t : List ℕ) : Type 0 where
+-- length and every byte but byte 72 of sector 0 and of the footer; the second image has one byte in both places
+pub record SameButTwice (s t : List ℕ) : Type 0 where
   pub long : length s ≡ length t
   pub same : (i : ℕ) → (i ≡ 72 → ⊥) → (i ≡ footerAt s + 72 → ⊥) → getD s i 0 ≡ getD t i 0
   pub again : getD t (footerAt s + 72) 0 ≡ getD t 72 0
 
 -- ---- what 27 tells
-abbrev pub Checked : List ℕ → Type 0
-Checked s = (capacity : ℕ) × (grainSize : ℕ) × (check s ≡ Accepted capacity grainSize)
+-- the check accepts it, whatever its sizes
+abbrev pub SomeAccepted : List ℕ → Type 0
+SomeAccepted s = (capacity : ℕ) × (grainSize : ℕ) × (check s ≡ Accepted capacity grainSize)
 
 -- of one image: it is accepted, 23 lets it through, and it was still open
 pub record OpenImage (s : List ℕ) : Type 0 where
-  pub checked : Checked s
+  pub checked : SomeAccepted s
   pub collapsible : notCollapsible (headerOf s) ≡ false
   pub dirty : stillOpen (headerOf s) ≡ true
 
 -- of two: both are accepted, 23 and 22 let them through, and one of them was still open
 pub record OpenImages (lower upper : List ℕ) : Type 0 where
-  pub lowerChecked : Checked lower
-  pub upperChecked : Checked upper
+  pub lowerChecked : SomeAccepted lower
+  pub upperChecked : SomeAccepted upper
   pub collapsible : (notCollapsible (headerOf lower) || notCollapsible (headerOf upper)) ≡ false
   pub alike : unlike (headerOf lower) (headerOf upper) ≡ false
   pub dirty : (stillOpen (headerOf lower) || stillOpen (headerOf upper)) ≡ true

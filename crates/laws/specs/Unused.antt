@@ -30,7 +30,7 @@ pub record SameInUse (s t : List ℕ) (h : Header) : Type 0 where
       → (markerSize s e ≡ markerSize t e) × (markerFirst s e ≡ markerFirst t e)
 
 -- all that decides an answer: the header, and what is read of an image of that header. The sizes of `headerOf` too, since a
--- chain compares layers by it
+-- chain compares layers by them
 pub record SameUsed (s t : List ℕ) : Type 0 where
   pub judged : judge s ≡ judge t
   pub capacity : headerOf s .capacity ≡ headerOf t .capacity

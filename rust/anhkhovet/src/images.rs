@@ -20,8 +20,8 @@ pub struct Header {
     pub descriptor: u64,
     /// Sectors of the descriptor; both numbers are 0 where there is none.
     pub descriptor_sectors: u64,
-    /// What the disk's last user left there: 0 where it was shut down, any other number where it was still open. Collapse and normal
-    /// form refuse such an image, 27; nothing else asks for it.
+    /// The dirty number: 0 where the disk was closed, any other number where it was still open. Collapse and normal form refuse such an
+    /// image, 27; nothing else asks for it.
     pub dirty: u64,
 }
 
