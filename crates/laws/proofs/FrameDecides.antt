@@ -33,7 +33,7 @@ use Rattle.format.proofs.Places.{redundant-tables}
 use Rattle.laws.specs.SameFrame.{SameBytes, SameAreas, decidingAreas, SameFrame, SameFrames}
 use Rattle.laws.specs.Unused.{SameTables, SameInUse, SameUsed}
 use Rattle.laws.proofs.SameBytes.{within, number-same, areas-both, areas-row, area-there, area-named}
-use Rattle.laws.proofs.SameHeader.{four-sectors, SameHead, sizes-same, judge-same}
+use Rattle.laws.proofs.SameHeader.{four-sectors, SameHead, head-sizes, judge-same}
 use Rattle.laws.proofs.UsedAnswers.{used-check, used-lookup, used-frame, used-list, used-row}
 use Rattle.laws.proofs.UsedChain.{used-chain}
 use Rattle.laws.proofs.UsedCollapse.{used-collapse, used-normal}
@@ -151,8 +151,8 @@ module _ (s t : List ℕ) (both : SameFrame s t) where
   decides : SameUsed s t
   decides = record {
     judged = judge-same s t same-head;
-    capacity = sizes-same s t same-head .0;
-    grainSize = sizes-same s t same-head .1;
+    capacity = head-sizes s t same-head .0;
+    grainSize = head-sizes s t same-head .1;
     used = λ h e. rw (judged-header s h e) in-use;
   }
 

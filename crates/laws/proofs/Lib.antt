@@ -45,9 +45,10 @@ pub mod StillOpenUsed
 pub mod StillOpenHeader
 pub mod StillOpenRead
 pub mod StillOpenApart
-pub mod StillOpen
+pub mod StillOpenFront
 pub mod StillOpenFooter
 pub mod StillOpenAccepted
+pub mod StillOpenDecides
 pub mod CheckRefusals
 pub mod StillOpenAnswer
 pub mod NeverUsed

@@ -25,7 +25,7 @@ use Rattle.laws.specs.SameFrame.{SameBytes}
 use Rattle.laws.specs.Unused.{SameTables, SameInUse, SameUsed}
 use Rattle.laws.specs.NeverUsed.{SameSectors, SameLayers}
 use Rattle.laws.proofs.SameBytes.{number-same, part-same}
-use Rattle.laws.proofs.SameHeader.{SameHead, sizes-same, judge-same}
+use Rattle.laws.proofs.SameHeader.{SameHead, head-sizes, judge-same}
 use Rattle.laws.proofs.UnusedLookup.{SameAnswer, refused, found, InFile, unused-lookup}
 use Rattle.laws.proofs.UsedAnswers.{used-check, used-lookup, used-frame, used-list, used-row}
 use Rattle.laws.proofs.UsedChain.{used-chain}
@@ -88,8 +88,8 @@ module _ (s t : List ℕ) (both : SameSectors s t) where
   pub never-used : SameUsed s t
   never-used = record {
     judged = never-used-header;
-    capacity = sizes-same s t same-head .0;
-    grainSize = sizes-same s t same-head .1;
+    capacity = head-sizes s t same-head .0;
+    grainSize = head-sizes s t same-head .1;
     used = λ h e. in-use h (sound-of s h e);
   }
 

@@ -28,6 +28,18 @@ pub four-sectors : (s : List ℕ) → sameAt s 0 kdmvMagic ≡ false → headerO
 unfolding headerOf cowdHeader
 four-sectors s n = ap (λ (h : Header). h .«header_sectors») (pick-else _ _ _ n)
 
+-- the sizes stand in the first 28 bytes
+pub front-sizes : (s t : List ℕ) → SameBytes s t 0 28
+    → (headerOf s .capacity ≡ headerOf t .capacity) × (headerOf s .«grain_size» ≡ headerOf t .«grain_size»)
+unfolding headerOf kdmvHeader cowdHeader kdmvFields cowdFields
+front-sizes s t front =
+    let number : (at n : ℕ) → at + n ≤ 28 → leAt s at n ≡ leAt t at n =
+    λ at n l. number-same s t at n (within s t 0 28 at n front (omega arith) l) in
+    rw (← string-same s t 0 kdmvMagic (within s t 0 28 0 4 front (omega arith) (omega arith)))
+    (pick-both (λ (h k : Header). (h .capacity ≡ k .capacity) × (h .«grain_size» ≡ k .«grain_size»)) (sameAt s 0 kdmvMagic)
+    _ _ _ _ (λ m. (number 12 8 (omega arith), number 20 8 (omega arith)))
+    (λ n. (number 12 4 (omega arith), number 16 4 (omega arith))))
+
 pub record SameHead (s t : List ℕ) : Type 0 where
   pub long : length s ≡ length t
   pub some : 1 ≤ fileSectors s
@@ -125,14 +137,8 @@ module _ (s t : List ℕ) (both : SameHead s t) where
       rw (← both .long)
       (pick-both _≡_ (ltb (length s) 2048) _ _ _ _ (λ q. refl) (λ q. rw (cowd-same (ltb-false _ _ q) n)))
 
-  -- the sizes stand in sector 0, which is there
-  pub sizes-same : (headerOf s .capacity ≡ headerOf t .capacity) × (headerOf s .«grain_size» ≡ headerOf t .«grain_size»)
-  unfolding headerOf kdmvHeader cowdHeader kdmvFields cowdFields
-  sizes-same =
-      rw (← string 0 kdmvMagic (omega arith))
-      (pick-both (λ (h k : Header). (h .capacity ≡ k .capacity) × (h .«grain_size» ≡ k .«grain_size»)) (sameAt s 0 kdmvMagic)
-      _ _ _ _ (λ m. (number 12 8 (omega arith), number 20 8 (omega arith)))
-      (λ n. (number 12 4 (omega arith), number 16 4 (omega arith))))
+  pub head-sizes : (headerOf s .capacity ≡ headerOf t .capacity) × (headerOf s .«grain_size» ≡ headerOf t .«grain_size»)
+  head-sizes = front-sizes s t (within s t 0 512 0 28 (both .head) (omega arith) (omega arith))
 
   pub judge-same : judge s ≡ judge t
   unfolding judge

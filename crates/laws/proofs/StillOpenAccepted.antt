@@ -1,5 +1,5 @@
--- The number that tells whether a disk was still open decides nothing of a check, a lookup, a frame or a row of an accepted
--- image: COWD, and KDMV with a footer, which has the number too.
+-- Accepted images, COWD and KDMV with a footer: the sectors that have the dirty number are no other area's, so another number
+-- changes it alone.
 use Prim.Native.Nat.{ℕ, _+_, _-_, _/_, _≤_}
 use mathlib.Core.Path.{_≡_, sym, _∙_}
 use mathlib.Core.List.{List}
@@ -7,7 +7,7 @@ use mathlib.Core.Bool.{true, false, true≢false}
 use mathlib.Core.Logic.{_⊎_, inl, inr, ⊎-elim}
 use native.Mathlib.Omega.{arith}
 use lib.Dec.{eqb}
-use lib.ListN.{length, getD}
+use lib.ListN.{getD}
 use borrow.Author.Tests.{eqb-true}
 use Rattle.base.specs.Pick.{pick}
 use Rattle.base.specs.Strings.{sameAt}
@@ -20,9 +20,7 @@ use Rattle.format.specs.Areas.{area, ifThere, headerArea, footerArea, holders}
 use Rattle.format.specs.Accepted.{FooterRules, Accepted}
 use Rattle.format.specs.Accepted.Accepted.{kdmv, cowd}
 use Rattle.format.specs.Check.{check}
-use Rattle.format.specs.Source.{sectorLookup}
-use Rattle.format.specs.Frame.{frame, frameList}
-use Rattle.format.specs.Survey.{rowOf}
+use Rattle.format.specs.Frame.{frame}
 use Rattle.format.specs.declared.Header.{Header}
 use Rattle.format.specs.declared.CheckAnswer.the-variants.{Accepted as accepts}
 use Rattle.format.proofs.Areas.{holds-in}
@@ -31,7 +29,7 @@ use Rattle.format.proofs.HeaderJudged.{judged-header}
 use Rattle.laws.specs.StillOpen.{SameBut, SameButTwice}
 use Rattle.laws.proofs.AcceptedImage.{accepted-sound}
 use Rattle.laws.proofs.ServedSectors.{accepted-good}
-use Rattle.laws.proofs.StillOpenUsed.{SameElse, else-check, else-lookup, else-frame, else-list, else-row}
+use Rattle.laws.proofs.StillOpenUsed.{SameElse}
 use Rattle.laws.proofs.SameHeader.{four-sectors}
 use Rattle.laws.proofs.StillOpenHeader.{kdmv-with, cowd-with}
 use Rattle.laws.proofs.StillOpenFooter.{spared, same-directory, same-broken}
@@ -53,7 +51,7 @@ module _ (s t : List ℕ) (both : SameBut s t 1648 4) (magic : sameAt s 0 cowdMa
   other-sectors : (i : ℕ) → (i / 512 ≡ 3 → ⊥) → getD s i 0 ≡ getD t i 0
   other-sectors i n = ⊎-elim (λ l. both .before i l) (λ l. both .after i (omega arith)) (lt-or-ge i 1648)
 
-  else-cowd : SameElse s t
+  pub else-cowd : SameElse s t
   else-cowd = record {
     number = _;
     judged = cowd-with s t (both .long) (λ i l b. both .before i (omega arith)) (one-magic s magic);
@@ -65,19 +63,6 @@ module _ (s t : List ℕ) (both : SameBut s t 1648 4) (magic : sameAt s 0 cowdMa
         (clear-apart s (headerOf s) (good .sound) (good .areas) (λ x. x ≡ 3)
         (λ x z. omega (arith, last-held (headerOf s) x four z))));
   }
-
-  pub open-cowd-check : check s ≡ check t
-  open-cowd-check = else-check s t else-cowd
-
-  pub open-cowd-lookup : (x : ℕ) → sectorLookup s x ≡ sectorLookup t x
-  open-cowd-lookup = else-lookup s t else-cowd
-
-  pub open-cowd-frame : (list : List ℕ) → (frame s (length list) ≡ frame t (length list))
-      × (frameList s list ≡ frameList t list)
-  open-cowd-frame list = (else-frame s t else-cowd (length list), else-list s t else-cowd list)
-
-  pub open-cowd-row : rowOf s ≡ rowOf t
-  open-cowd-row = else-row s t else-cowd
 
 -- ---- KDMV with a footer: sector 0 and sector F-2
 footer-rules : (s : List ℕ) → Accepted s → sameAt s 0 kdmvMagic ≡ true → atEnd (kdmvFields s) ≡ true → FooterRules s
@@ -102,7 +87,7 @@ module _ (s t : List ℕ) (both : SameButTwice s t) (magic : sameAt s 0 kdmvMagi
   other-bytes : (i : ℕ) → (Ends s (i / 512) → ⊥) → getD s i 0 ≡ getD t i 0
   other-bytes i n = both .same i (λ z. n (inl (omega arith))) (λ z. n (inr (omega arith)))
 
-  else-footer : SameElse s t
+  pub else-footer : SameElse s t
   else-footer = record {
     number = _;
     judged =
@@ -116,16 +101,3 @@ module _ (s t : List ℕ) (both : SameButTwice s t) (magic : sameAt s 0 kdmvMagi
         (clear-used s t (both .long) (Ends s) other-bytes (headerOf s) (good .sound)
         (clear-apart s (headerOf s) (good .sound) (good .areas) (Ends s) (ends-held s magic end)));
   }
-
-  pub open-footer-check : check s ≡ check t
-  open-footer-check = else-check s t else-footer
-
-  pub open-footer-lookup : (x : ℕ) → sectorLookup s x ≡ sectorLookup t x
-  open-footer-lookup = else-lookup s t else-footer
-
-  pub open-footer-frame : (list : List ℕ) → (frame s (length list) ≡ frame t (length list))
-      × (frameList s list ≡ frameList t list)
-  open-footer-frame list = (else-frame s t else-footer (length list), else-list s t else-footer list)
-
-  pub open-footer-row : rowOf s ≡ rowOf t
-  open-footer-row = else-row s t else-footer

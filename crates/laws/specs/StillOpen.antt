@@ -4,7 +4,9 @@ use mathlib.Core.Path.{_≡_}
 use mathlib.Core.List.{List}
 use mathlib.Core.Bool.{true, false, _||_}
 use lib.ListN.{length, getD}
-use Rattle.format.specs.Kdmv.{footerAt}
+use Rattle.base.specs.Strings.{sameAt}
+use Rattle.format.specs.Kdmv.{kdmvMagic, kdmvFields, atEnd, footerAt}
+use Rattle.format.specs.Cowd.{cowdMagic}
 use Rattle.format.specs.Header.{headerOf}
 use Rattle.format.specs.Check.{check}
 use Rattle.format.specs.Chain.{unlike}
@@ -24,10 +26,18 @@ pub record SameButTwice (s t : List ℕ) : Type 0 where
   pub same : (i : ℕ) → (i ≡ 72 → ⊥) → (i ≡ footerAt s + 72 → ⊥) → getD s i 0 ≡ getD t i 0
   pub again : getD t (footerAt s + 72) 0 ≡ getD t 72 0
 
--- ---- what 27 tells
 -- the check accepts it, whatever its sizes
 abbrev pub SomeAccepted : List ℕ → Type 0
 SomeAccepted s = (capacity : ℕ) × (grainSize : ℕ) × (check s ≡ Accepted capacity grainSize)
+
+-- t is s but for its dirty number: of KDMV without a footer, accepted or not; of an accepted KDMV image with a footer, where
+-- both sectors have it; of an accepted COWD image
+pub data OtherNumber (s t : List ℕ) : Type 0 where
+  kdmv : SameBut s t 72 1 → sameAt s 0 kdmvMagic ≡ true → atEnd (kdmvFields s) ≡ false → OtherNumber s t
+  footer : SameButTwice s t → sameAt s 0 kdmvMagic ≡ true → atEnd (kdmvFields s) ≡ true → SomeAccepted s → OtherNumber s t
+  cowd : SameBut s t 1648 4 → sameAt s 0 cowdMagic ≡ true → SomeAccepted s → OtherNumber s t
+
+-- ---- what 27 tells
 
 -- of one image: it is accepted, 23 lets it through, and it was still open
 pub record OpenImage (s : List ℕ) : Type 0 where

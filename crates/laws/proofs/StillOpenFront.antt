@@ -1,26 +1,23 @@
--- The number that tells whether a disk was still open decides nothing of a check, a lookup, a frame or a row.
+-- KDMV without a footer, of any bytes: in sector 0 nothing is read but the header, so another byte 72 changes its number alone.
 use Prim.Native.Nat.{ℕ, _≤_}
 use mathlib.Core.Path.{_≡_, sym, _∙_}
 use mathlib.Core.List.{List}
 use mathlib.Core.Bool.{Bool, true, false, true≢false, _&&_}
 use native.Mathlib.Omega.{arith}
 use lib.Dec.{eqb}
-use lib.ListN.{length}
 use borrow.Author.Tests.{eqb-false}
 use Rattle.base.specs.Strings.{sameAt}
 use Rattle.format.specs.Kdmv.{kdmvMagic, kdmvFields, atEnd}
 use Rattle.format.specs.Entries.{entryAt, meaning, inTable, entryOfGrain}
 use Rattle.format.specs.Check.{check}
-use Rattle.format.specs.Source.{sectorLookup}
-use Rattle.format.specs.Frame.{frame, frameList}
-use Rattle.format.specs.Survey.{rowOf}
+use Rattle.format.specs.Frame.{frame}
 use Rattle.format.specs.declared.Header.{Header}
 use Rattle.format.specs.declared.Entry.{Entry}
 use Rattle.format.specs.declared.Entry.the-variants.{Absent, Zero, Sector}
 use Rattle.format.proofs.Picked.{passed}
 use Rattle.format.proofs.HeaderSound.{sound-of}
 use Rattle.laws.specs.StillOpen.{SameBut}
-use Rattle.laws.proofs.StillOpenUsed.{SameElse, else-check, else-lookup, else-frame, else-list, else-row}
+use Rattle.laws.proofs.StillOpenUsed.{SameElse}
 use Rattle.laws.proofs.StillOpenHeader.{kdmv-with}
 use Rattle.laws.proofs.StillOpenRead.{ClearTables, ClearImage, clear-used}
 
@@ -61,7 +58,7 @@ module _ (s : List ℕ) (h : Header) where
 
 module _ (s t : List ℕ) (both : SameBut s t 72 1) (kdmv : sameAt s 0 kdmvMagic ≡ true) (none : atEnd (kdmvFields s) ≡ false)
   where
-    else-kdmv : SameElse s t
+    pub else-kdmv : SameElse s t
     else-kdmv = record {
       number = _;
       judged =
@@ -71,16 +68,3 @@ module _ (s t : List ℕ) (both : SameBut s t 72 1) (kdmv : sameAt s 0 kdmvMagic
           clear-used s t (both .long) (λ x. x ≡ 0) (λ i n. both .after i (omega arith)) h (sound-of s h e)
           (past-front s h some);
     }
-
-    pub open-kdmv-check : check s ≡ check t
-    open-kdmv-check = else-check s t else-kdmv
-
-    pub open-kdmv-lookup : (x : ℕ) → sectorLookup s x ≡ sectorLookup t x
-    open-kdmv-lookup = else-lookup s t else-kdmv
-
-    pub open-kdmv-frame : (list : List ℕ) → (frame s (length list) ≡ frame t (length list))
-        × (frameList s list ≡ frameList t list)
-    open-kdmv-frame list = (else-frame s t else-kdmv (length list), else-list s t else-kdmv list)
-
-    pub open-kdmv-row : rowOf s ≡ rowOf t
-    open-kdmv-row = else-row s t else-kdmv
