@@ -20,7 +20,7 @@ fn stored_files() {
 #[test]
 fn small_input() {
     let input = std::fs::read(root().join("crates/cases/stdin")).unwrap();
-    assert!(input.len() <= 1_950_000, "{} bytes", input.len());
+    assert!(input.len() <= 1_850_000, "{} bytes", input.len());
 }
 
 /// The stored surveys have images of each refusal number of the check.
