@@ -2,6 +2,7 @@
 #![allow(dead_code)]
 
 use crate::common::{names, tool, Folder};
+use std::fs;
 use std::path::Path;
 use std::process::{Child, Command, Stdio};
 use std::thread::sleep;
@@ -17,12 +18,36 @@ pub fn held(folder: &Folder, words: &[&str]) -> Child {
     hold(folder.path(), &mut command)
 }
 
-/// Holds a command once an unfinished output is in the folder.
+/// Holds a command once an unfinished output is in the folder. On a busy machine it may be done before it can be held: then
+/// what it wrote is removed, and it is started again.
 pub fn hold(folder: &Path, command: &mut Command) -> Child {
-    let child = begun(folder, command);
-    assert!(has_part(folder), "it ended before it was held");
-    signal(&child, libc::SIGSTOP);
-    child
+    let before = names(folder);
+    for _ in 0..30 {
+        let mut child = begun(folder, command);
+        signal(&child, libc::SIGSTOP);
+        if stopped(&child) && has_part(folder) {
+            return child;
+        }
+        signal(&child, libc::SIGCONT);
+        child.wait().expect("it ends");
+        for name in names(folder) {
+            if !before.contains(&name) {
+                fs::remove_file(folder.join(name)).expect("removed");
+            }
+        }
+    }
+    panic!("it ended before it was held, each time");
+}
+
+/// Whether a child that was told to stop did so, rather than having ended before. It is not waited for.
+fn stopped(child: &Child) -> bool {
+    // SAFETY: all zeros is a value of this plain struct, and the child is ours and was not waited for yet.
+    unsafe {
+        let mut told: libc::siginfo_t = std::mem::zeroed();
+        let kinds = libc::WSTOPPED | libc::WEXITED | libc::WNOWAIT;
+        libc::waitid(libc::P_PID, child.id(), &mut told, kinds) == 0
+            && told.si_code == libc::CLD_STOPPED
+    }
 }
 
 /// Starts a command that writes, and waits until its unfinished output is there.
