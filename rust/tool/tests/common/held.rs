@@ -3,6 +3,7 @@
 
 use crate::common::{names, tool, Folder};
 use std::fs;
+use std::os::unix::process::CommandExt;
 use std::path::Path;
 use std::process::{Child, Command, Stdio};
 use std::thread::sleep;
@@ -11,10 +12,20 @@ use std::time::{Duration, Instant};
 /// So many sectors that writing them takes far longer than a test needs to see that it began.
 pub const BIG: u64 = 1 << 21;
 
-/// Starts a command that writes, and holds it once its unfinished output is there.
+/// Starts a command that writes, and holds it once its unfinished output is there. Whoever started the tests may have had
+/// signals ignored, as `nohup` does and shells do for what runs in the background: the tool would leave them so.
 pub fn held(folder: &Folder, words: &[&str]) -> Child {
     let mut command = tool(folder.path());
     command.args(words);
+    // SAFETY: plain calls, which may be made there.
+    unsafe {
+        command.pre_exec(|| {
+            for number in 1..=64 {
+                libc::signal(number, libc::SIG_DFL);
+            }
+            Ok(())
+        });
+    }
     hold(folder.path(), &mut command)
 }
 
