@@ -4,4 +4,6 @@ pub mod Stands
 pub mod Numbers
 pub mod Strings
 pub mod Over
+pub mod OverApart
 pub mod Rows
+pub mod Sums

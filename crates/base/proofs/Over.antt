@@ -1,6 +1,6 @@
 -- Laws of bytes written over a part of a list, in the forms in which the code yields and wants them.
-use Prim.Native.Nat.{ℕ, _+_, _-_, _≤_, _<_}
-use mathlib.Core.Path.{_≡_, sym, ap, _∙_}
+use Prim.Native.Nat.{ℕ, zero, suc, _+_, _-_, _≤_, _<_}
+use mathlib.Core.Path.{_≡_, refl, sym, ap, _∙_}
 use mathlib.Core.List.{List, [], _∷_, _++_, append-assoc, append-nil}
 use native.Mathlib.Omega.{arith}
 use native.Mathlib.Nat.{add-zero, zero-add, add-assoc}
@@ -19,6 +19,10 @@ over-length d at vs h = simp (length-append, length-take-le at d (omega arith), 
 pub over-none : (d : List ℕ) (at : ℕ) → d ≡ over d at []
 unfolding over
 over-none d at = sym (simp (append-nil, add-zero, take-append-drop))
+
+pub over-whole : (d vs : List ℕ) → length vs ≡ length d → over d 0 vs ≡ vs
+unfolding over
+over-whole d vs e = let k : length d ≤ 0 + length vs = omega arith in rw (drop-of-length-le d k) (append-nil vs)
 
 -- a run of stores
 pub over-sets : (d : List ℕ) (at : ℕ) (vs : List ℕ) → at + length vs ≤ length d → sets d at vs ≡ over d at vs
@@ -84,6 +88,13 @@ zeros-none d at = over-none d at
 pub zeros-length : (n : ℕ) → length (zeros n) ≡ n
 unfolding zeros
 zeros-length n = length-replicate n 0
+
+-- past its end a list counts 0 too
+pub zeros-at : (n i : ℕ) → getD (zeros n) i 0 ≡ 0
+unfolding zeros
+zeros-at zero i = refl
+zeros-at (suc n) zero = refl
+zeros-at (suc n) (suc i) = zeros-at n i
 
 pub zeros-ends : (here n there : ℕ) → here + n ≡ there → here + length (zeros n) ≡ there
 zeros-ends here n there e = rw (zeros-length n) e

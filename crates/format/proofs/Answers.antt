@@ -4,7 +4,7 @@ use mathlib.Core.Path.{_≡_, refl, sym, ap, _∙_}
 use mathlib.Core.Bool.{false}
 use lib.Dec.{eqb}
 use Rattle.base.specs.Pick.{pick}
-use Rattle.format.specs.Answers.{number, place, verdict, located, chained, written, framed, surveyed}
+use Rattle.format.specs.Answers.{number, place, verdict, markedNumbers, located, chained, written, framed, surveyed}
 use Rattle.format.specs.declared.Refusal.{Refusal}
 use Rattle.format.specs.declared.Refusal.the-variants.{TooShort, Magic, Version, Newline, Flags, Sizes, Footer, Misplaced}
 use Rattle.format.specs.declared.Refusal.the-variants.{GrainPast, Marker, CopiesDiffer, SharedSector, SectorPast}
@@ -22,7 +22,9 @@ use Rattle.format.specs.declared.CollapseAnswer.{CollapseAnswer}
 use Rattle.format.specs.declared.CollapseAnswer.the-variants.{Written as writtenTo, Refused as notWritten}
 use Rattle.format.specs.declared.FrameAnswer.{FrameAnswer}
 use Rattle.format.specs.declared.FrameAnswer.the-variants.{Listed, Refused as notListed}
+use Rattle.format.specs.declared.MarkedAnswer.{MarkedAnswer}
 use Rattle.format.specs.declared.Verdict.{Verdict}
+use Rattle.format.specs.declared.Marked.{Marked}
 use Rattle.format.specs.declared.Located.{Located}
 use Rattle.format.specs.declared.Written.{Written}
 use Rattle.format.specs.declared.Framed.{Framed}
@@ -94,6 +96,22 @@ check-back (unaccepted r) = rw (told r .some, told r .back)
 
 pub check-alike : (a b : CheckAnswer) → verdict a ≡ verdict b → a ≡ b
 check-alike = lossless verdict checkOf check-back
+
+-- ---- the check in a lent list
+abbrev markedOf : Marked → MarkedAnswer
+markedOf m =
+    record {
+      checked =
+          checkOf
+          (record { number = m .number; place = m .place; capacity = m .capacity; «grain_size» = m .«grain_size» });
+      marked = m .marked;
+    }
+
+marked-back : (a : MarkedAnswer) → markedOf (markedNumbers a) ≡ a
+marked-back a = rw check-back
+
+pub marked-alike : (a b : MarkedAnswer) → markedNumbers a ≡ markedNumbers b → a ≡ b
+marked-alike = lossless markedNumbers markedOf marked-back
 
 -- ---- the lookups
 abbrev sourceIs : Located → Source

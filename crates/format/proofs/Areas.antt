@@ -51,7 +51,7 @@ shares-no a b x e =
     (λ y. ⊎-elim (λ z. omega arith) (λ z. omega arith) (holds-or b x))
     (holds-or a x)
 
-any-yes : (a : Area) (l : List Area) → sharesAny a l ≡ true → (x : ℕ) × (holds a x ≡ 1) × (1 ≤ holders l x)
+pub any-yes : (a : Area) (l : List Area) → sharesAny a l ≡ true → (x : ℕ) × (holds a x ≡ 1) × (1 ≤ holders l x)
 unfolding sharesAny holders
 any-yes a [] e = absurd (false≢true e)
 any-yes a (b ∷ l) e =
@@ -60,7 +60,7 @@ any-yes a (b ∷ l) e =
     (λ y. let r = any-yes a l y in (r .0, r .1, omega (arith, r .2)))
     (or-yes _ _ e)
 
-any-no : (a : Area) (l : List Area) (x : ℕ) → sharesAny a l ≡ false → holds a x ≡ 1 → holders l x ≡ 0
+pub any-no : (a : Area) (l : List Area) (x : ℕ) → sharesAny a l ≡ false → holds a x ≡ 1 → holders l x ≡ 0
 unfolding sharesAny holders
 any-no a [] x e h = refl
 any-no a (b ∷ l) x e h =

@@ -1,6 +1,7 @@
 pub mod Geometry
 pub mod Entries
 pub mod Areas
+pub mod MarkedSectors
 pub mod Answers
 pub mod Mistakes
 pub mod Picked
@@ -13,7 +14,9 @@ pub mod HeaderKdmv
 pub mod HeaderCowd
 pub mod HeaderJudged
 pub mod HeaderSound
+pub mod HeaderRefusals
 pub mod Places
+pub mod CameToMarking
 pub mod Filed
 pub mod Passed
 pub mod Grains

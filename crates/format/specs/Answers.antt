@@ -21,7 +21,9 @@ use Rattle.format.specs.declared.FrameAnswer.{FrameAnswer}
 use Rattle.format.specs.declared.FrameAnswer.the-variants.{Listed, Refused as frameRefused}
 use Rattle.format.specs.declared.SurveyAnswer.{SurveyAnswer}
 use Rattle.format.specs.declared.SurveyAnswer.the-variants.{Surveyed as surveyedIn, Refused as surveyRefused}
+use Rattle.format.specs.declared.MarkedAnswer.{MarkedAnswer}
 use Rattle.format.specs.declared.Verdict.{Verdict}
+use Rattle.format.specs.declared.Marked.{Marked}
 use Rattle.format.specs.declared.Located.{Located}
 use Rattle.format.specs.declared.Written.{Written}
 use Rattle.format.specs.declared.Framed.{Framed}
@@ -96,6 +98,18 @@ headerNumbers (headerRefused r) = record {
 abbrev pub verdict : CheckAnswer → Verdict
 verdict (Accepted capacity grainSize) = record { number = 0; place = 0; capacity = capacity; «grain_size» = grainSize }
 verdict (checkRefused r) = record { number = number r; place = place r; capacity = 0; «grain_size» = 0 }
+
+-- ---- the check in a lent list: capacity, grain size and the sectors marked; on 12 their number stands beside two zeros
+abbrev pub markedNumbers : MarkedAnswer → Marked
+markedNumbers a =
+    let v = verdict (a .checked) in
+    record {
+      number = v .number;
+      place = v .place;
+      capacity = v .capacity;
+      «grain_size» = v .«grain_size»;
+      marked = a .marked;
+    }
 
 -- ---- the lookup and the chain lookup: a layer and the kind of source: 0 absent, 1 zero, 2 stored, 3 packed
 abbrev pub served : ℕ → Source → Located

@@ -4,11 +4,12 @@ use Prim.Native.Nat.{ℕ, _*_, _≤_}
 use mathlib.Core.Path.{_≡_}
 use mathlib.Core.List.{List}
 use mathlib.Core.Bool.{false}
-use Rattle.format.specs.Header.{directoryEntriesOf}
+use Rattle.format.specs.Header.{directoryEntriesOf, judge}
 use Rattle.format.specs.Areas.{areas, meet}
-use Rattle.format.specs.Check.{misplaced, lowestPast, lowestBadMarker, copiesDiffer}
+use Rattle.format.specs.Check.{misplaced, lowestPast, lowestBadMarker, copiesDiffer, checkApart, check}
 use Rattle.format.specs.declared.Header.{Header}
 use Rattle.format.specs.declared.Lowest.the-variants.{None}
+use Rattle.format.specs.declared.HeaderAnswer.the-variants.{Known}
 
 -- 6, of the sizes alone: nothing that is computed from them can wrap
 pub record Sized (capacity grainSize : ℕ) : Type 0 where
@@ -34,6 +35,12 @@ pub record Placed (s : List ℕ) (h : Header) : Type 0 where
 pub record Filed (s : List ℕ) (h : Header) : Type 0 where
   pub placed : Placed s h
   pub none : lowestPast s h ≡ None
+
+-- 1 to 11: nothing but 12 is left of the check
+pub record Unmarked (s : List ℕ) (h : Header) : Type 0 where
+  pub judged : judge s ≡ Known h
+  pub filed : Filed s h
+  pub left : check s ≡ checkApart s h
 
 -- 8 to 12, where the check accepts with capacity c and grain size g
 pub record Passed (s : List ℕ) (h : Header) (c g : ℕ) : Type 0 where

@@ -14,4 +14,5 @@ pub mod Layout
 pub mod Collapse
 pub mod Answers
 pub mod Survey
+pub mod CheckIn
 pub mod Judged

@@ -162,6 +162,12 @@ pub enum SurveyAnswer {
     Refused(Refusal),
 }
 
+// The check in a lent list: its answer, and how many sectors it marked.
+pub struct MarkedAnswer {
+    pub checked: CheckAnswer,
+    pub marked: u64,
+}
+
 // The same in numbers, as document 01 has them: number 0 is an answer, and what does not apply is 0.
 #[repr(C)]
 pub struct Verdict {
@@ -169,6 +175,16 @@ pub struct Verdict {
     pub place: u64,
     pub capacity: u64,
     pub grain_size: u64,
+}
+
+// The check in a lent list, with the sectors that it marked.
+#[repr(C)]
+pub struct Marked {
+    pub number: u64,
+    pub place: u64,
+    pub capacity: u64,
+    pub grain_size: u64,
+    pub marked: u64,
 }
 
 // kind: 0 absent, 1 zero, 2 stored, 3 packed.

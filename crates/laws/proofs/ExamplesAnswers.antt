@@ -2,7 +2,8 @@
 use Prim.Native.Nat.{ℕ}
 use mathlib.Core.List.{List, [], _∷_, map}
 use mathlib.Core.Path.{refl}
-use Rattle.format.specs.Answers.{number, place, headerNumbers, verdict, located, chained, written}
+use Rattle.format.specs.Answers.{number, place, headerNumbers, verdict, markedNumbers, located, chained, written}
+use Rattle.format.specs.declared.MarkedAnswer.{MarkedAnswer}
 use Rattle.format.specs.declared.Refusal.{Refusal}
 use Rattle.format.specs.declared.Refusal.the-variants.{TooShort, Magic, Version, Newline, Flags, Sizes, Footer, Misplaced}
 use Rattle.format.specs.declared.Refusal.the-variants.{GrainPast, Marker, CopiesDiffer, SharedSector, SectorPast}
@@ -28,6 +29,10 @@ headed a =
 
 abbrev checked : CheckAnswer → List ℕ
 checked a = let v = verdict a in v .number ∷ v .place ∷ v .capacity ∷ v .«grain_size» ∷ []
+
+abbrev markedWith : MarkedAnswer → List ℕ
+markedWith a =
+    let v = markedNumbers a in v .number ∷ v .place ∷ v .capacity ∷ v .«grain_size» ∷ v .marked ∷ []
 
 abbrev served : Located → List ℕ
 served v = v .number ∷ v .layer ∷ v .place ∷ v .kind ∷ v .sector ∷ v .size ∷ v .offset ∷ []
@@ -69,6 +74,10 @@ answers =
     -- the check: capacity, grain size
     ∷ example (checked (Accepted 200 128)) (0 ∷ 0 ∷ 200 ∷ 128 ∷ [])
     ∷ example (checked (unaccepted (GrainPast 3))) (9 ∷ 3 ∷ 0 ∷ 0 ∷ [])
+    -- in a lent list: with the sectors marked, also on 12
+    ∷ example (markedWith (record { checked = Accepted 200 128; marked = 9 })) (0 ∷ 0 ∷ 200 ∷ 128 ∷ 9 ∷ [])
+    ∷ example (markedWith (record { checked = unaccepted SharedSector; marked = 7 })) (12 ∷ 0 ∷ 0 ∷ 0 ∷ 7 ∷ [])
+    ∷ example (markedWith (record { checked = unaccepted (GrainPast 3); marked = 0 })) (9 ∷ 3 ∷ 0 ∷ 0 ∷ 0 ∷ [])
     -- a lookup: layer 0, place, kind, sector, size, offset
     ∷ example (served (located (Found Absent))) (0 ∷ 0 ∷ 0 ∷ 0 ∷ 0 ∷ 0 ∷ 0 ∷ [])
     ∷ example (served (located (Found Zero))) (0 ∷ 0 ∷ 0 ∷ 1 ∷ 0 ∷ 0 ∷ 0 ∷ [])

@@ -7,6 +7,7 @@ use mathlib.Core.Bool.{true}
 use mathlib.Core.Logic.{⊎-elim}
 use native.Mathlib.Omega.{arith}
 use lib.Dec.{lit≤}
+use lib.ListN.{length}
 use borrow.Author.Tests.{ne-eqb}
 use Rattle.base.specs.Strings.{sameAt}
 use Rattle.format.proofs.Picked.{pick-then}
@@ -17,6 +18,7 @@ use Rattle.format.specs.Entries.{entryAt, meaningAt}
 use Rattle.format.specs.Areas.{headerArea, directoryArea, redundantArea, tableAreas, primaryTables, named}
 use Rattle.format.specs.Areas.{redundantTables, footerArea, lastArea}
 use Rattle.format.specs.Check.{check}
+use Rattle.format.specs.CheckIn.{checkIn, listAfterCheck}
 use Rattle.format.specs.Source.{sectorLookup}
 use Rattle.format.specs.Chain.{chainLookup}
 use Rattle.format.specs.Collapse.{normal, collapse}
@@ -35,6 +37,7 @@ use Rattle.laws.specs.Unused.{SameTables, SameInUse, SameUsed}
 use Rattle.laws.proofs.SameBytes.{within, number-same, areas-both, areas-row, area-there, area-named}
 use Rattle.laws.proofs.SameHeader.{four-sectors, SameHead, head-sizes, judge-same}
 use Rattle.laws.proofs.UsedAnswers.{used-check, used-lookup, used-frame, used-list, used-row}
+use Rattle.laws.proofs.UsedCheckIn.{used-check-in, used-lent}
 use Rattle.laws.proofs.UsedChain.{used-chain}
 use Rattle.laws.proofs.UsedCollapse.{used-collapse, used-normal}
 
@@ -158,6 +161,10 @@ module _ (s t : List ℕ) (both : SameFrame s t) where
 
   pub frame-decides-check : check s ≡ check t
   frame-decides-check = used-check s t decides
+
+  pub frame-decides-check-in : (list : List ℕ) → (checkIn s (length list) ≡ checkIn t (length list))
+      × (listAfterCheck s list ≡ listAfterCheck t list)
+  frame-decides-check-in list = (used-check-in s t decides (length list), used-lent s t decides list)
 
   pub frame-decides-lookup : (x : ℕ) → sectorLookup s x ≡ sectorLookup t x
   frame-decides-lookup = used-lookup s t decides

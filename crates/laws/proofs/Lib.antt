@@ -50,6 +50,9 @@ pub mod StillOpenFooter
 pub mod StillOpenAccepted
 pub mod StillOpenDecides
 pub mod CheckRefusals
+pub mod FirstMeeting
+pub mod CheckInRoom
+pub mod UsedCheckIn
 pub mod StillOpenAnswer
 pub mod NeverUsed
 pub mod NeverUsedCollapse
@@ -63,6 +66,7 @@ pub mod NotConstant
 pub mod ExamplesAnswers
 pub mod ExamplesChain
 pub mod ExamplesCheck
+pub mod ExamplesCheckIn
 pub mod ExamplesCollapse
 pub mod ExamplesFooter
 pub mod ExamplesFrame

@@ -9,6 +9,7 @@ use Rattle.base.specs.Pick.{pick}
 use Rattle.format.specs.Geometry.{fileSectors}
 use Rattle.format.specs.Header.{judge}
 use Rattle.format.specs.Check.{check}
+use Rattle.format.specs.CheckIn.{checkIn, listAfterCheck}
 use Rattle.format.specs.Frame.{frame, frameList}
 use Rattle.format.specs.Survey.{rowOf}
 use Rattle.format.specs.Entries.{entryAt, grainSectors, markerSize}
@@ -28,6 +29,7 @@ use Rattle.laws.proofs.SameBytes.{number-same, part-same}
 use Rattle.laws.proofs.SameHeader.{SameHead, head-sizes, judge-same}
 use Rattle.laws.proofs.UnusedLookup.{SameAnswer, refused, found, InFile, unused-lookup}
 use Rattle.laws.proofs.UsedAnswers.{used-check, used-lookup, used-frame, used-list, used-row}
+use Rattle.laws.proofs.UsedCheckIn.{used-check-in, used-lent}
 use Rattle.laws.proofs.UsedChain.{used-chain}
 
 module _ (s t : List ℕ) (both : SameSectors s t) where
@@ -95,6 +97,10 @@ module _ (s t : List ℕ) (both : SameSectors s t) where
 
   pub never-used-check : check s ≡ check t
   never-used-check = used-check s t never-used
+
+  pub never-used-check-in : (list : List ℕ) → (checkIn s (length list) ≡ checkIn t (length list))
+      × (listAfterCheck s list ≡ listAfterCheck t list)
+  never-used-check-in list = (used-check-in s t never-used (length list), used-lent s t never-used list)
 
   pub never-used-lookup : (x : ℕ) → sectorLookup s x ≡ sectorLookup t x
   never-used-lookup = used-lookup s t never-used

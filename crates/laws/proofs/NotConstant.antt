@@ -25,9 +25,11 @@ use Rattle.format.specs.Grains.{upperUnlessAbsent, grainFrom, oneIfStored, stor
 use Rattle.format.specs.Layout.{tableCount, tablesAt, tablesEnd, sectorV, layoutLength}
 use Rattle.format.specs.Collapse.{ifAccepted, writtenIfRoom, normalFrom, normal, collapseFrom, collapse}
 use Rattle.format.specs.Frame.{frameAreas, listedIfRoom, frameFrom, frame}
-use Rattle.format.specs.Answers.{headerNumbers, verdict, located, chained, written, framed, surveyed}
+use Rattle.format.specs.CheckIn.{sectorsOf, beforeMeeting, cameToMarking, checkInRoom, withMarked, checkIn}
+use Rattle.format.specs.Answers.{headerNumbers, verdict, markedNumbers, located, chained, written, framed, surveyed}
 use Rattle.format.specs.declared.Head.{Head}
 use Rattle.format.specs.declared.Verdict.{Verdict}
+use Rattle.format.specs.declared.Marked.{Marked}
 use Rattle.format.specs.declared.Located.{Located}
 use Rattle.format.specs.declared.Part.{Part}
 use Rattle.format.specs.declared.Written.{Written}
@@ -58,6 +60,13 @@ differ f n x a some p q r same = omega (arith, sym p ∙ ap n (sym (same []) ∙
 pub check-varies : (r : Verdict) → ((s : List ℕ) → r ≡ verdict (check s)) → ⊥
 unfolding pick powerUpTo leAt leBytes sameAt zeros grains directoryEntries directorySectors kdmvFields kdmvFault kdmvHeader directoryOf unlessFault withFooter judgeKdmv judge rows meaning inTable entryOfGrain ifThere named redundantTables areas runsPast shares sharesAny meet misplaced lowestFrom copiesDiffer unlessGrain checkApart checkCopies checkGrains checkLayout checkFrom
 check-varies = differ (λ s. verdict (check s)) (λ (v : Verdict). v .capacity) (small 0 0 0 0) 16 (omega arith) refl refl
+
+-- its six sectors, for which one word is enough
+pub check-in-varies : (r : Marked) → ((s : List ℕ) (room : ℕ) → r ≡ markedNumbers (checkIn s room)) → ⊥
+unfolding pick powerUpTo leAt leBytes sameAt zeros grains directoryEntries directorySectors kdmvFields kdmvFault kdmvHeader directoryOf headerOf unlessFault withFooter judgeKdmv judge rows meaning inTable entryOfGrain ifThere named redundantTables areas runsPast shares sharesAny meet misplaced lowestFrom copiesDiffer unlessGrain checkApart checkCopies checkGrains checkLayout checkFrom sectorsOf beforeMeeting cameToMarking checkInRoom withMarked
+check-in-varies r same =
+    differ (λ s. markedNumbers (checkIn s 1)) (λ (v : Marked). v .marked) (small 0 0 0 0) 6 (omega arith) refl refl r
+    (λ s. same s 1)
 
 -- its header
 pub header-varies : (r : Head) → ((s : List ℕ) → r ≡ headerNumbers (judge s)) → ⊥

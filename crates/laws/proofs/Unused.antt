@@ -200,7 +200,7 @@ module _ (s t : List ℕ) (h : Header) (one : 1 ≤ h .«grain_size») (per : 1 
             (λ e q.
             rw (sectors-same s t (h .packed) (h .«grain_size») e (λ c. same .markers c g e l q (marker-in g e l q) .0))))
 
-        areas-same : areas s h ≡ areas t h
+        pub areas-same : areas s h ≡ areas t h
         areas-same =
             rw (
               areas-frame s h,

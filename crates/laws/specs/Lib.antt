@@ -2,10 +2,10 @@ pub mod Layers
 pub mod Served
 pub mod Runs
 pub mod SameFrame
-pub mod RowSums
 pub mod NeverUsed
 pub mod Unused
 pub mod StillOpen
 pub mod Images
+pub mod FirstMeeting
 pub mod Examples
 pub mod ExampleLayers

@@ -4,19 +4,15 @@ use mathlib.Core.Path.{_≡_, sym, ap, _∙_}
 use mathlib.Core.List.{List, _++_}
 use mathlib.Core.Logic.{⊎-elim}
 use native.Mathlib.Omega.{arith}
-use lib.ListN.{length, getD, take, length-append, getD-replicate, List·getD-append}
+use lib.ListN.{length, getD, take, length-append, List·getD-append}
 use lib.Seq.{ext-getD, getD-take, getD-append-add, length-take-le}
 use borrow.Author.Tests.{lt-ltb, le-ltb}
 use Rattle.base.specs.Bytes.{over, zeros}
-use Rattle.base.proofs.Over.{first, last, zeros-length}
+use Rattle.base.proofs.Over.{first, last, zeros-length, zeros-at}
 use Rattle.base.proofs.Rows.{tabulate-length, tabulate-at}
 use Rattle.base.proofs.Steps.{lt-or-ge}
 use Rattle.format.proofs.Picked.{pick-then, pick-else}
 use Rattle.format.specs.Grains.{clip, clipAt}
-
-zeros-at : (n i : ℕ) → i < n → getD (zeros n) i 0 ≡ 0
-unfolding zeros
-zeros-at n i h = getD-replicate n i 0 0 h
 
 module _ (c z g : ℕ) where
   module _ (s : List ℕ) (keep : ℕ) (e : keep ≡ min (512 * z) (512 * c - 512 * (g * z))) (h : 512 * z ≤ length s) where
@@ -38,7 +34,7 @@ module _ (c z g : ℕ) where
     past i l b =
         let q : i ≡ length (take keep s) + (i - keep) = omega (arith, front-length) in
         ap (λ (k : ℕ). getD bytes k 0) q ∙ getD-append-add (take keep s) _ (i - keep) 0 ∙ zeros-at (512 * z - keep)
-        (i - keep) (omega arith)
+        (i - keep)
         ∙ sym (pick-else _ _ _ (le-ltb (512 * (g * z) + i) (512 * c) (omega arith)))
 
     clip-is : bytes ≡ clip c z g s

@@ -16,7 +16,7 @@ use Rattle.format.specs.Grains.{Grain, Map, bytesOf, oneIfStored, storedBelow, 
 use Rattle.format.specs.Layout.{tablesAt, sectorV, sectorOf, layoutLength}
 use Rattle.format.proofs.Lengths.{next-sector}
 use Rattle.layout.specs.WrittenParts.{entryIn, bytesIn, withGrains}
-use Rattle.layout.proofs.Apart.{over-swap}
+use Rattle.base.proofs.OverApart.{over-swap}
 use Rattle.layout.proofs.EntryRuns.{rows-none, rows-more, entries-long, entries-more}
 use Rattle.layout.proofs.PartSizes.{entries-before}
 use Rattle.layout.proofs.StoredGrains.{Full, stored-within, bytes-long}

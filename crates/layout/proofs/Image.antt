@@ -13,7 +13,7 @@ use Rattle.format.specs.Layout.{tableCount, tablesAt, tablesEnd, sectorV, heade
 use Rattle.format.specs.Layout.{grainBytes, layoutOf}
 use Rattle.format.proofs.Lengths.{header-length, directory-length, gap-length, grains-late}
 use Rattle.layout.specs.WrittenParts.{entriesEnd, unused, withFront, entryIn, bytesIn, withGrains}
-use Rattle.layout.proofs.Apart.{over-swap}
+use Rattle.base.proofs.OverApart.{over-swap}
 use Rattle.layout.proofs.EntryRuns.{entries-long}
 use Rattle.layout.proofs.Padded.{entries-padded}
 use Rattle.layout.proofs.PartSizes.{entries-fit, unused-ends, entries-before}

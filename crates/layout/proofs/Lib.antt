@@ -2,7 +2,6 @@ pub mod PartSizes
 pub mod EntryRuns
 pub mod Padded
 pub mod Clipped
-pub mod Apart
 pub mod StoredGrains
 pub mod GrainsDone
 pub mod Image

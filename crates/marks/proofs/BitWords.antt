@@ -1,21 +1,19 @@
 -- What the words say of their sectors.
-use Prim.Native.Nat.{ℕ, zero, suc, _+_, _*_, _/_, _%_, _<_}
-use mathlib.Core.Path.{_≡_, refl, ap, _∙_}
+use Prim.Native.Nat.{ℕ, _+_, _*_, _/_, _%_, _<_}
+use mathlib.Core.Path.{_≡_, ap, _∙_}
 use mathlib.Core.List.{List}
 use native.Mathlib.Omega.{arith}
 use lib.ListN.{length, getD, set, replicate}
 use lib.Seq.{getD-set-same, getD-set-other}
+use Rattle.base.specs.Bytes.{zeros}
+use Rattle.base.proofs.Over.{zeros-at}
 use Rattle.marks.specs.Marks.{bit, marked}
 use Rattle.marks.proofs.Bits.{bit-zero}
 
 -- ---- words of 0 mark nothing
-zero-word : (n j : ℕ) → _≡_ {A = ℕ} (getD (replicate n 0) j 0) 0
-zero-word zero j = refl
-zero-word (suc n) zero = refl
-zero-word (suc n) (suc j) = zero-word n j
-
 pub none-marked : (n s : ℕ) → marked (replicate n 0) s ≡ 0
-none-marked n s = ap (λ (w : ℕ). bit w (s % 64)) (zero-word n (s / 64)) ∙ bit-zero (s % 64)
+unfolding zeros
+none-marked n s = ap (λ (w : ℕ). bit w (s % 64)) (zeros-at n (s / 64)) ∙ bit-zero (s % 64)
 
 -- ---- bit k of word j is its sector k
 pub sector-at : (ws : List ℕ) (j k s : ℕ) → k < 64 → s ≡ j * 64 + k → marked ws s ≡ bit (getD ws j 0) k
