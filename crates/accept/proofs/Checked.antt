@@ -29,18 +29,5 @@ module _ (s : List ℕ) (h : Header) where
   pub in-file : judge s ≡ Known h → Filed s h → InFile s h
   in-file e f = record { sound = f .placed .sound; inside = all-in-file s h e (f .placed .kept) (f .none) }
 
--- ---- at an arm of a match
-module _ (z a : CheckAnswer) (l e : Lowest) (refusal : ℕ → Refusal) (is : l ≡ e) where
-  pub grain-found : (g : ℕ) → l ≡ Grain g → z ≡ Refused (refusal g) → z ≡ unlessGrain e refusal a
-  unfolding unlessGrain
-  grain-found g q t = rw (← is, q) t
-
-  pub grain-none : l ≡ None → z ≡ a → z ≡ unlessGrain e refusal a
-  unfolding unlessGrain
-  grain-none q t = rw (← is, q) t
-
-pub judged-as : (s : List ℕ) (z : CheckAnswer) (a r v : HeaderAnswer) → r ≡ a → r ≡ v → z ≡ checkFrom s v → z ≡ checkFrom s a
-judged-as s z a r v e q t = rw (← e, q) t
-
 pub judged-known : (s : List ℕ) (a : HeaderAnswer) (h : Header) → a ≡ judge s → a ≡ Known h → judge s ≡ Known h
 judged-known s a h e q = sym e ∙ q

@@ -1,2 +1,4 @@
 pub mod Checked
 pub mod AcceptedHeaders
+pub mod UnmarkedSteps
+pub mod UnmarkedLeft

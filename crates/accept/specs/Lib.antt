@@ -1,1 +1,2 @@
 pub mod AcceptedHeader
+pub mod Unmarked

@@ -1,7 +1,7 @@
 // Answers in document 01's numbers, for whoever prints them or hands them on.
 ghost use mathlib.Core.Path.{_≡_};
-ghost use Rattle.format.specs.Answers.{number, place, headerNumbers, verdict, served, unserved, located, chained};
-ghost use Rattle.format.specs.Answers.{written, framed, surveyed};
+ghost use Rattle.format.specs.Answers.{number, place, headerNumbers, verdict, markedNumbers, served, unserved};
+ghost use Rattle.format.specs.Answers.{located, chained, written, framed, surveyed};
 use format::ChainAnswer;
 use format::CheckAnswer;
 use format::CollapseAnswer;
@@ -11,6 +11,8 @@ use format::Head;
 use format::HeaderAnswer;
 use format::Located;
 use format::LookupAnswer;
+use format::Marked;
+use format::MarkedAnswer;
 use format::Refusal;
 use format::Source;
 use format::SurveyAnswer;
@@ -88,6 +90,20 @@ pub fn unserved_of(layer: u64, refusal: Refusal) -> Located
         sector: 0,
         size: 0,
         offset: 0,
+    }
+}
+
+pub fn marked_of(a: MarkedAnswer) -> Marked
+    ensures { λ r. ⌜ r ≡ markedNumbers a ⌝ }
+{
+    let checked = a.checked;
+    let v = verdict_of(checked);
+    Marked {
+        number: v.number,
+        place: v.place,
+        capacity: v.capacity,
+        grain_size: v.grain_size,
+        marked: a.marked,
     }
 }
 

@@ -3,8 +3,8 @@
 // A case is five u64, what is asked and the numbers of sectors, lengths, bytes and room; then the sectors and the lengths, a
 // u64 each; then the bytes. What is asked: 0 the calls on one image; 1 the chain lookup; 2 the collapse of one to four layers;
 // 3 a text's extents, and which of them hold the sectors; 4 which of 32 records in the bytes hold the sectors; 5 the lookup and
-// the grain reader alone; 6 the frame; 7 the survey; 8 the lookup in a disk of several files, whose text the first length has.
-// The room is the length of the output or of the list.
+// the grain reader alone; 6 the frame; 7 the survey; 8 the lookup in a disk of several files, whose text the first length has;
+// 9 the check in a lent list. The room is the length of the output or of the list.
 ghost use Prim.Native.Nat.{_≤_, _<_};
 ghost use lib.ListN.{length};
 use libc::STDIN_FILENO;
@@ -32,6 +32,10 @@ fn ask(what: u64, lengths: &[u8], bytes: &[u8], out: &mut [u8])
     }
     if what == 7 {
         cases_images::survey(bytes, lengths, out.len());
+        return;
+    }
+    if what == 9 {
+        cases_images::check_in(bytes, out.len());
     }
 }
 

@@ -116,6 +116,26 @@ pub fn frame(image: &[u8], room: usize) {
     frame_in(image, &mut words[0..n]);
 }
 
+// Number, place, capacity, grain size, the sectors marked, and the words of the list.
+fn check_in_list(image: &[u8], list: &mut [u64]) {
+    let told = answers::marked_of(accept_in::check_in(image, &mut *list));
+    programs::start(b"check_in ");
+    programs::put(told.number);
+    programs::put(told.place);
+    programs::put(told.capacity);
+    programs::put(told.grain_size);
+    programs::put(told.marked);
+    put_words(list);
+    programs::end();
+}
+
+// Each word holds 170 before the call: old bits must not count.
+pub fn check_in(image: &[u8], room: usize) {
+    let n = at_most_96(room);
+    let mut words = [170u64; 96];
+    check_in_list(image, &mut words[0..n]);
+}
+
 // Number, place and totals, and the words of both lists.
 fn survey_in(images: &[u8], lengths: &[u64], rows: &mut [u64], tally: &mut [u64]) {
     let told = answers::surveyed_of(survey::survey(images, lengths, &mut *rows, &mut *tally));

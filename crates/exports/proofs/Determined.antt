@@ -10,6 +10,7 @@ use denote.Triple.Clauses.{Ended, AtExit, Lasts, atExit, lasts}
 use denote.Triple.Spec.{exits}
 use Rattle.exports.specs.Outcome.{ContractOf, Lifetimes, Arguments, Answer, Determined}
 use Rattle.exports.proofs.anhkhovet_check as check
+use Rattle.exports.proofs.anhkhovet_check_in as checkIn
 use Rattle.exports.proofs.anhkhovet_header as header
 use Rattle.exports.proofs.anhkhovet_lookup as lookup
 use Rattle.exports.proofs.anhkhovet_chain as chain
@@ -117,7 +118,7 @@ module _ (T : Ended) where
           ((r ≡ answer κs a) × (ws ≡ put κs a (content κs a) (other κs a)))
           (λ p. (p .0, all κs a ws ∙ (λ i. put κs a (p .1 .0 i) (p .1 .1 i)))))
 
--- ---- the twelve calls: each `_` is what the contract itself says
+-- ---- the thirteen calls: each `_` is what the contract itself says
 pub check-determined : Determined check.ended (λ M. check.spec)
 check-determined = answered check.ended _ (λ κs a. (tt, tt)) (λ κs a ws. refl)
 
@@ -138,6 +139,10 @@ find-determined = answered find.ended _ (λ κs a. (tt, (tt, tt))) (λ κs a ws.
 
 pub split-determined : Determined split.ended (λ M. split.spec)
 split-determined = answered split.ended _ (λ κs a. (tt, (tt, (tt, (tt, tt))))) (λ κs a ws. refl)
+
+pub check-in-determined : Determined checkIn.ended (λ M. checkIn.spec)
+check-in-determined =
+    written-apart checkIn.ended _ _ _ (λ κs e. now (e .1 .0)) (λ κs a x. (tt, (x, tt))) (λ κs a ws. refl)
 
 pub frame-determined : Determined frame.ended (λ M. frame.spec)
 frame-determined =

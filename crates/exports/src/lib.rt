@@ -3,14 +3,16 @@ ghost use mathlib.Core.Path.{_≡_};
 ghost use lib.ListN.{length};
 ghost use Rattle.format.specs.Header.{judge};
 ghost use Rattle.format.specs.Check.{check};
+ghost use Rattle.format.specs.CheckIn.{checkIn, listAfterCheck};
 ghost use Rattle.format.specs.Frame.{frame, frameList};
 ghost use Rattle.format.specs.Source.{sectorLookup, answerPart};
 ghost use Rattle.format.specs.Chain.{chainLookup};
 ghost use Rattle.format.specs.Collapse.{normal, normalOutput, collapse, collapseOutput};
-ghost use Rattle.format.specs.Answers.{headerNumbers, verdict, located, chained, written, framed};
+ghost use Rattle.format.specs.Answers.{headerNumbers, verdict, markedNumbers, located, chained, written, framed};
 use format::Framed;
 use format::Head;
 use format::Located;
+use format::Marked;
 use format::Part;
 use format::Verdict;
 use format::Written;
@@ -23,6 +25,14 @@ pub extern "C" fn anhkhovet_check(image: &[u8]) -> Verdict
     ensures { λ r. ⌜ r ≡ verdict (check (now (image .entry))) ⌝ }
 {
     answers::verdict_of(accept::check(image))
+}
+
+#[no_mangle]
+pub extern "C" fn anhkhovet_check_in(image: &[u8], list: &mut [u64]) -> Marked
+    ensures { λ r. ⌜ r ≡ markedNumbers (checkIn (now (image .entry)) (length (now (list .entry)))) ⌝ }
+    ensures { λ r. ⌜ now (list .exit) ≡ listAfterCheck (now (image .entry)) (now (list .entry)) ⌝ }
+{
+    answers::marked_of(accept_in::check_in(image, &mut *list))
 }
 
 #[no_mangle]

@@ -16,10 +16,15 @@ pub record Marked (lo : ℕ) (ws₀ : List ℕ) (l : List Area) (ws : List ℕ) 
   pub size : length ws ≡ length ws₀
   pub run : Run lo ws₀ l ws false
 
-rows-split : (m n : ℕ) (p : ℕ → List Area) → rows (m + n) p ≡ rows m p ++ rows n (λ k. p (m + k))
+pub rows-split : (m n : ℕ) (p : ℕ → List Area) → rows (m + n) p ≡ rows m p ++ rows n (λ k. p (m + k))
 unfolding rows
 rows-split m zero p = rw add-zero (sym (append-nil _))
 rows-split m (suc n) p = rw (add-suc, rows-split m n p, append-assoc)
+
+-- one row
+pub row-alone : (p : ℕ → List Area) (k : ℕ) → rows 1 (λ i. p (k + i)) ≡ p k
+unfolding rows
+row-alone p k = rw add-zero
 
 -- rows of which none has an area
 pub rows-none : (n : ℕ) (p : ℕ → List Area) → ((k : ℕ) → k < n → p k ≡ []) → rows n p ≡ []
@@ -46,15 +51,11 @@ module _ (lo : ℕ) (ws₀ : List ℕ) (p : ℕ → List Area) where
 
   -- ---- the next row
   module _ (ws xs : List ℕ) (k : ℕ) (r : Bool) (m : Marked lo ws₀ (rows k p) ws) (g : Run lo ws (p k) xs r) where
-    alone : rows 1 (λ i. p (k + i)) ≡ p k
-    unfolding rows
-    alone = rw add-zero
-
     pub marked-more : r ≡ false → Marked lo ws₀ (rows (k + 1) p) xs
-    marked-more e = marked-rows ws xs k 1 (p k) r m alone g e
+    marked-more e = marked-rows ws xs k 1 (p k) r m (row-alone p k) g e
 
     pub marked-met : (n : ℕ) → k < n → r ≡ true → Run lo ws₀ (rows n p) xs true
-    marked-met n h e = met-rows ws xs k 1 (p k) r m alone g n (omega arith) e
+    marked-met n h e = met-rows ws xs k 1 (p k) r m (row-alone p k) g n (omega arith) e
 
   pub marked-all : (ws : List ℕ) (k n : ℕ) → Marked lo ws₀ (rows k p) ws → k ≤ n → n ≤ k → Run lo ws₀ (rows n p) ws false
   marked-all ws k n m l h = let q : n ≡ k = omega arith in rw q (m .run)

@@ -61,7 +61,7 @@ module _ (s : List ℕ) (b : Bool) (least : ℕ) (q : least ≡ leastSector b) w
   pub listed-as : (packed : Bool) (size t n : ℕ) → Listed s (leastSector b) packed size t n → Listed s least packed size t n
   listed-as packed size t n l = rw q l
 
-no-area : (s : List ℕ) (least : ℕ) (packed : Bool) (size t k : ℕ) → entryAt s t k < least
+pub no-area : (s : List ℕ) (least : ℕ) (packed : Bool) (size t k : ℕ) → entryAt s t k < least
     → entryArea s least packed size t k ≡ []
 unfolding entryArea pick
 no-area s least packed size t k h = rw (lt-ltb (entryAt s t k) least h)
@@ -107,17 +107,21 @@ unfolding leastSector pick
 some-least true least q = omega (arith, q)
 some-least false least q = omega (arith, q)
 
-pub zeros-marked : (lo : ℕ) (ws₀ ws s : List ℕ) (least : ℕ) (packed : Bool) (size t j n k : ℕ) → 1 ≤ least
-    → Marked lo ws₀ (rows j (entryArea s least packed size t)) ws → Passed s t j n k
-    → Marked lo ws₀ (rows k (entryArea s least packed size t)) ws
-zeros-marked lo ws₀ ws s least packed size t j n k one m p =
-    let q : k ≡ j + (k - j) = omega (arith, p .low) in
-    rw q (marked-rows lo ws₀ _ ws ws j (k - j) [] false m (rows-none (k - j) _ none) done refl)
+pub zeros-name : (s : List ℕ) (least : ℕ) (packed : Bool) (size t j n k : ℕ) → 1 ≤ least → Passed s t j n k
+    → rows (k - j) (λ i. entryArea s least packed size t (j + i)) ≡ []
+zeros-name s least packed size t j n k one p = rows-none (k - j) _ none
   where
     none : (i : ℕ) → i < k - j → entryArea s least packed size t (j + i) ≡ []
     none i l =
         let z : entryAt s t (j + i) ≡ 0 = p .zeros (j + i) (omega arith) (omega arith) in
         no-area s least packed size t (j + i) (omega (arith, z))
+
+pub zeros-marked : (lo : ℕ) (ws₀ ws s : List ℕ) (least : ℕ) (packed : Bool) (size t j n k : ℕ) → 1 ≤ least
+    → Marked lo ws₀ (rows j (entryArea s least packed size t)) ws → Passed s t j n k
+    → Marked lo ws₀ (rows k (entryArea s least packed size t)) ws
+zeros-marked lo ws₀ ws s least packed size t j n k one m p =
+    let q : k ≡ j + (k - j) = omega (arith, p .low) in
+    rw q (marked-rows lo ws₀ _ ws ws j (k - j) [] false m (zeros-name s least packed size t j n k one p) done refl)
 
 -- the loop over blocks: a turn passes over zeros, then marks the entries after them
 module _ (lo : ℕ) (ws₀ ws xs s : List ℕ) (least : ℕ) (packed : Bool) (size t n k from count : ℕ) (r : Bool) (one : 1 ≤ least)

@@ -18,7 +18,7 @@ use sizes::entries_in_use;
 use window::mark_area;
 
 // The lowest entry that is a sector.
-fn least_sector(one_is_zero: bool) -> u64
+pub fn least_sector(one_is_zero: bool) -> u64
     ensures { λ r. ⌜ r ≡ leastSector «one_is_zero» ⌝ }
 {
     if one_is_zero {

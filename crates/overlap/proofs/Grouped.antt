@@ -1,11 +1,12 @@
 -- What `InFile` says to each part of the walk.
 use Prim.Native.Nat.{ℕ, _+_, _*_, _-_, _≤_, _<_, _^_}
 use mathlib.Core.Path.{_≡_, refl}
-use mathlib.Core.List.{List, [], _++_, append-assoc}
+use mathlib.Core.List.{List, [], _∷_, _++_, append-assoc}
 use mathlib.Core.Bool.{Bool, true, false}
 use native.Mathlib.Omega.{arith}
 use lib.ListN.{length}
-use borrow.Author.Tests.{eq-eqb, le-ltb}
+use lib.Dec.{eqb}
+use borrow.Author.Tests.{eqb-false, le-ltb}
 use Rattle.base.specs.Pick.{pick}
 use Rattle.base.specs.Rows.{rows}
 use Rattle.base.specs.Rounding.{ceil}
@@ -20,21 +21,24 @@ use Rattle.format.proofs.Inside.{Inside, groups-in, one-in, rows-in, in-rows, t
 use Rattle.format.proofs.Places.{redundant-in, redundant-tables}
 use Rattle.window.specs.Run.{Run, done}
 use Rattle.named.specs.Named.{leastSector, entryArea, grainNamed}
-use Rattle.overlap.specs.InFile.{InFile, headAreas, directoryAreas, frontAreas, tablesOfBoth, backAreas, Ends}
-use Rattle.named.specs.Listed.{Listed}
-use Rattle.named.specs.Listed.{Grained}
+use Rattle.overlap.specs.InFile.{InFile, headAreas, directoryAreas, frontAreas, tablesOf, backAreas, besideGrains}
+use Rattle.overlap.specs.InFile.{walked, Ends}
+use Rattle.overlap.specs.declared.Walk.{Walk}
+use Rattle.ascent.specs.Ascend.{span}
+use Rattle.ascent.specs.declared.Stretch.{Stretch}
+use Rattle.named.specs.Listed.{Listed, Grained}
 use Rattle.window.proofs.RunLaws.{run-more, run-stop}
 use Rattle.named.proofs.Named.{tables-named, entry-ends, entry-inside}
 use Rattle.named.proofs.NamedGrains.{grain-at}
 
 -- the areas, as functions mark them
-regroup : (a b c d e f g i j : List Area) → a ++ (b ++ (c ++ (d ++ (e ++ (f ++ (g ++ (i ++ j))))))) ≡ ((a ++ b) ++ (c ++ d))
-    ++ ((e ++ f) ++ ((g ++ i) ++ j))
+regroup : (a b c d e f g i j : List Area) → a ++ (b ++ (c ++ (d ++ (e ++ (f ++ (g ++ (i ++ j))))))) ≡ (((a ++ b) ++ (c ++ d))
+    ++ ((e ++ f) ++ (g ++ i)))
+    ++ j
 regroup a b c d e f g i j = simp append-assoc
 
-pub areas-grouped : (s : List ℕ) (h : Header) → areas s h ≡ frontAreas h
-    ++ (tablesOfBoth s h ++ (backAreas s h ++ grainAreas s h))
-unfolding areas frontAreas headAreas directoryAreas tablesOfBoth backAreas
+pub areas-grouped : (s : List ℕ) (h : Header) → areas s h ≡ besideGrains s h false ++ grainAreas s h
+unfolding areas besideGrains frontAreas headAreas directoryAreas tablesOf backAreas pick
 areas-grouped s h =
     regroup (headerArea h) (descriptorArea h) (directoryArea h) (redundantArea h) (primaryTables s h) (redundantTables s h)
     (footerArea s h) (lastArea s h) (grainAreas s h)
@@ -67,16 +71,17 @@ module _ (s : List ℕ) (h : Header) (i : InFile s h) where
           inside = rw (tables-named s (h .«one_is_zero») _ refl (h .«table_sectors») (h .directory) n, e) (groups .tables);
         }
 
-    module _ (there : h .redundant ≡ 0 → ⊥) where
-      pub copies-listed : Listed s (leastSector (h .«one_is_zero»)) false (h .«table_sectors») (h .redundant) n
-      copies-listed =
-          record {
-            some = some-table;
-            read = omega (arith, i .sound .directory, redundant-in (fileSectors s) h (groups .redundant) there);
-            inside =
-                rw (tables-named s (h .«one_is_zero») _ refl (h .«table_sectors») (h .redundant) n, e)
-                (rw (redundant-tables s h there) at (groups .copies));
-          }
+    pub copies-listed : eqb (h .redundant) 0 ≡ false
+        → Listed s (leastSector (h .«one_is_zero»)) false (h .«table_sectors») (h .redundant) n
+    copies-listed q =
+        let there = eqb-false (h .redundant) 0 q in
+        record {
+          some = some-table;
+          read = omega (arith, i .sound .directory, redundant-in (fileSectors s) h (groups .redundant) there);
+          inside =
+              rw (tables-named s (h .«one_is_zero») _ refl (h .«table_sectors») (h .redundant) n, e)
+              (rw (redundant-tables s h there) at (groups .copies));
+        }
 
   -- ---- grains
   module _ (d : ℕ) (l : d * h .«entries_per_table» < grainsOf h) where
@@ -122,22 +127,47 @@ module _ (s : List ℕ) (h : Header) (i : InFile s h) where
             };
       }
 
+-- tables are listed unless they are left out
+pub kept-listed : (s : List ℕ) (out oneIsZero : Bool) (sectors directory n : ℕ)
+    → (out ≡ false → Listed s (leastSector oneIsZero) false sectors directory n) → out ≡ false
+    → Listed s (leastSector oneIsZero) false sectors directory n
+kept-listed s out oneIsZero sectors directory n f q = f q
+
 -- ---- the runs of groups, as the code puts them together
 module _ (lo : ℕ) (s : List ℕ) (h : Header) (ws : List ℕ) where
-  pub copies-none : h .redundant ≡ 0 → Run lo ws (redundantTables s h) ws false
-  unfolding redundantTables pick
-  copies-none e = rw (eq-eqb (h .redundant) 0 e) done
-
   module _ (xs : List ℕ) (r : Bool) where
-    pub tables-run : (n : ℕ) → n ≡ directoryEntriesOf h
-        → Run lo ws (tableAreas s (h .«one_is_zero») (h .«table_sectors») (h .directory) n) xs r
-        → Run lo ws (primaryTables s h) xs r
-    tables-run n e g = rw e at g
+    -- tables that are left out, or not
+    module _ (out oneIsZero : Bool) (sectors directory n : ℕ) where
+      pub run-out : out ≡ true → Run lo ws (pick out [] (tableAreas s oneIsZero sectors directory n)) ws false
+      unfolding pick
+      run-out t = rw t done
 
-    pub copies-some : (n : ℕ) → (h .redundant ≡ 0 → ⊥) → n ≡ directoryEntriesOf h
-        → Run lo ws (tableAreas s (h .«one_is_zero») (h .«table_sectors») (h .redundant) n) xs r
-        → Run lo ws (redundantTables s h) xs r
-    copies-some n there e g = rw (redundant-tables s h there, ← e) g
+      pub run-kept : out ≡ false → Run lo ws (tableAreas s oneIsZero sectors directory n) xs r
+          → Run lo ws (pick out [] (tableAreas s oneIsZero sectors directory n)) xs r
+      unfolding pick
+      run-kept f g = rw f g
+
+    module _ (between : Bool) (n : ℕ) (e : n ≡ directoryEntriesOf h)
+        (g : Run lo ws (pick between [] (tableAreas s (h .«one_is_zero») (h .«table_sectors») (h .directory) n)) xs r) where
+      pub tables-stop : r ≡ true → Run lo ws (tablesOf s h between) xs true
+      unfolding tablesOf
+      tables-stop t = run-stop _ (rw e at g) t
+
+      pub tables-all : (ys : List ℕ) (q : Bool) → r ≡ false
+          → Run lo xs
+          (pick (eqb (h .redundant) 0) [] (tableAreas s (h .«one_is_zero») (h .«table_sectors») (h .redundant) n)) ys q
+          → Run lo ws (tablesOf s h between) ys q
+      unfolding tablesOf redundantTables
+      tables-all ys q f k = run-more (rw e at g) f (rw e at k)
+
+    -- the stretch comes last
+    pub stretch-run : (ys : List ℕ) (q : Bool) (n : ℕ) (st : Stretch) (l : List Area) → Run lo ws l xs r → r ≡ false
+        → n ≡ st .end - st .first → Run lo xs (area (st .first) n ∷ []) ys q → Run lo ws (l ++ (span st ∷ [])) ys q
+    stretch-run ys q n st l g f e k = run-more g f (rw e at k)
+
+    -- by the walk that was matched
+    pub walk-as : (walk way : Walk) → walk ≡ way → Run lo ws (walked s h way) xs r → Run lo ws (walked s h walk) xs r
+    walk-as walk way e g = rw e g
 
     pub grains-run : (all : ℕ) → all ≡ ceil (h .capacity) (h .«grain_size»)
         → Run lo ws (rows all (grainNamed s (h .«one_is_zero») (h .packed) (h .«grain_size») (h .«entries_per_table»)

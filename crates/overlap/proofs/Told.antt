@@ -14,12 +14,12 @@ use Rattle.marks.proofs.BitWords.{none-marked}
 use Rattle.window.specs.Run.{low, high, Run, done, next, met, Window}
 
 -- in the window each sector is marked as often as areas hold it: so no two of them share a sector there
-abbrev Stands : List ℕ → ℕ → List Area → Type 0
+abbrev pub Stands : List ℕ → ℕ → List Area → Type 0
 Stands ws lo l = (i : ℕ) → i < 64 * length ws → marked ws i ≡ holders l (lo + i)
 
 module _ (lo : ℕ) where
   -- ---- where `seen` were marked before
-  stands-put : (ws xs : List ℕ) (seen : List Area) (a : Area) → Stands ws lo seen → Free ws (low lo ws a) (high lo ws a)
+  pub stands-put : (ws xs : List ℕ) (seen : List Area) (a : Area) → Stands ws lo seen → Free ws (low lo ws a) (high lo ws a)
       → Put ws xs (low lo ws a) (high lo ws a) → Stands xs lo (a ∷ seen)
   unfolding holders
   stands-put ws xs seen a st f p i h =
@@ -39,15 +39,15 @@ module _ (lo : ℕ) where
       (lt-or-ge (lo + i) (a .first + a .sectorCount)))
       (lt-or-ge (lo + i) (a .first))
 
-  run-free : (seen : List Area) {ws ys : List ℕ} {l : List Area} {r : Bool} → Run lo ws l ys r → r ≡ false → Stands ws lo seen
-      → (i : ℕ) → i < 64 * length ws → holders seen (lo + i) + holders l (lo + i) ≤ 1
+  pub run-free : (seen : List Area) {ws ys : List ℕ} {l : List Area} {r : Bool} → Run lo ws l ys r → r ≡ false
+      → Stands ws lo seen → (i : ℕ) → i < 64 * length ws → holders seen (lo + i) + holders l (lo + i) ≤ 1
   unfolding holders
   run-free seen done e st i h = omega (arith, st i h)
   run-free seen (next {ws} {xs} {ys} {a} f p g) e st i h =
       omega (arith, run-free (a ∷ seen) g e (stands-put ws xs seen a st f p) i (omega (arith, p .size)))
   run-free seen (met t) e st i h = absurd (true≢false e)
 
-  run-met : (seen : List Area) {ws ys : List ℕ} {l : List Area} {r : Bool} → Run lo ws l ys r → r ≡ true → Stands ws lo seen
+  pub run-met : (seen : List Area) {ws ys : List ℕ} {l : List Area} {r : Bool} → Run lo ws l ys r → r ≡ true → Stands ws lo seen
       → (x : ℕ) × (2 ≤ holders seen x + holders l x)
   unfolding holders
   run-met seen done e st = absurd (false≢true e)
@@ -59,7 +59,7 @@ module _ (lo : ℕ) where
       (lo + t .0, omega (arith, t .3, st (t .0) (omega arith), holds-in a (lo + t .0) (omega arith) (omega arith)))
 
   -- ---- from words of 0 on, which stand for no areas: one window whole, its n words never written out
-  stands-none : (n : ℕ) → Stands (replicate n 0) lo []
+  pub stands-none : (n : ℕ) → Stands (replicate n 0) lo []
   unfolding holders
   stands-none n i h = none-marked n i
 

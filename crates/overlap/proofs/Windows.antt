@@ -7,11 +7,9 @@ use mathlib.Core.Bool.{Bool, true, false}
 use native.Mathlib.Omega.{arith}
 use Rattle.base.proofs.Steps.{lt-or-ge}
 use Rattle.format.specs.Geometry.{fileSectors}
-use Rattle.format.specs.Areas.{Area, holders, areas, meet}
-use Rattle.format.specs.declared.Header.{Header}
+use Rattle.format.specs.Areas.{Area, holders, runsPast, meet}
 use Rattle.format.proofs.Areas.{two-meet, apart-meet, past-none}
 use Rattle.window.specs.Run.{Window}
-use Rattle.overlap.specs.InFile.{InFile}
 
 -- no sector below lo lies in two areas
 pub record Clear (l : List Area) (lo : ℕ) : Type 0 where
@@ -28,10 +26,9 @@ module _ (l : List Area) where
     pub clear-met : r ≡ true → true ≡ meet l
     clear-met e = let m = w .met e in sym (two-meet l (m .0) (m .1))
 
--- all areas lie below the file's end
-pub clear-end : (s : List ℕ) (h : Header) (f lo : ℕ) → Clear (areas s h) lo → f ≤ lo → f ≡ fileSectors s → InFile s h
-    → false ≡ meet (areas s h)
-clear-end s h f lo k le q i =
-    sym (apart-meet (areas s h) (λ x.
-    ⊎-elim (λ b. k .below x b) (λ a. omega (arith, past-none (fileSectors s) (areas s h) (i .inside) x (omega arith)))
-    (lt-or-ge x lo)))
+  -- all areas lie below the file's end
+  pub clear-end : (s : List ℕ) (f lo : ℕ) → Clear l lo → f ≤ lo → f ≡ fileSectors s → runsPast (fileSectors s) l ≡ false
+      → false ≡ meet l
+  clear-end s f lo k le q inside =
+      sym (apart-meet l (λ x.
+      ⊎-elim (λ b. k .below x b) (λ a. omega (arith, past-none (fileSectors s) l inside x (omega arith))) (lt-or-ge x lo)))

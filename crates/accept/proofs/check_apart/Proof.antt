@@ -1,5 +1,5 @@
-use Rattle.accept.proofs.Checked.{in-file}
 use Rattle.format.specs.Check.{checkApart}
+use Rattle.accept.proofs.Checked.{in-file}
 use Rattle.base.proofs.Steps.{steps}
 use Rattle.accept.proofs.check_apart.Statement.{statement}
 use Rattle.accept.proofs.check_apart.Tie as tie
@@ -10,5 +10,5 @@ check-apart-spec =
     tie.close
     (tie.spec
     (λ areas-meet-requires κs. search in-file)
-    (λ returns. search steps)
-    (λ returns-2. search steps))
+    (λ c. rw (c .before .before .before .pre .left) (search steps))
+    (λ c. rw (c .before .before .before .pre .left) (search steps)))

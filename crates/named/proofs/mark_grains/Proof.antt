@@ -2,7 +2,7 @@
 use Prim.Native.Nat.{_-_}
 use borrow.Author.Needs.{needs}
 use Rattle.named.proofs.Named.{some-least}
-use Rattle.named.proofs.NamedGrains.{Tables, tables-start, tables-entry, tables-table}
+use Rattle.named.proofs.NamedGrains.{turn-entry, turn-table, Tables, tables-start}
 use Rattle.named.proofs.NamedGrains.{tables-more, tables-met, tables-all}
 use Rattle.named.proofs.mark_grains.Statement.{statement}
 use Rattle.named.proofs.mark_grains.Tie as tie
@@ -24,7 +24,7 @@ mark-grains-spec =
     (λ loop-holds. search tables-start)
     (λ sub-entries-in-use. search needs)
     (λ entries-in-use-requires κs. search needs)
-    (λ mark-table-grains-requires κs. ((search needs, search some-least, search tables-entry), search tables-table))
+    (λ mark-table-grains-requires κs. ((search needs, search some-least, search turn-entry), search turn-table))
     (λ same-length. search needs)
     (λ returns. search tables-met)
     (λ add-d. search needs)

@@ -1,7 +1,7 @@
--- `mark_all`: four calls, left where one met; their groups are the list of areas.
-use borrow.Author.Needs.{needs}
-use Rattle.overlap.proofs.Grouped.{areas-grouped, fixed-ends}
+-- `mark_all`: two calls, left where one met; their groups are the list of areas.
+use Rattle.overlap.proofs.Grouped.{areas-grouped}
 use Rattle.window.proofs.RunLaws.{calls}
+use borrow.Author.Needs.{needs}
 use Rattle.overlap.proofs.mark_all.Statement.{statement}
 use Rattle.overlap.proofs.mark_all.Tie as tie
 
@@ -9,15 +9,9 @@ pub mark-all-spec : {M : Type 1} → statement M
 mark-all-spec =
     tie.close
     (tie.spec
-    (λ mark-front-requires κs. (search needs, search (fixed-ends, needs)))
+    (λ mark-frame-requires κs. search needs)
     (λ same-length. search needs)
-    (λ returns. rw areas-grouped (search calls depth 12))
-    (λ mark-tables-of-both-requires κs. search needs)
-    (λ same-length-2. search needs)
-    (λ returns-2. rw areas-grouped (search calls depth 12))
-    (λ mark-back-requires κs. search needs)
-    (λ same-length-3. search needs)
-    (λ returns-3. rw areas-grouped (search calls depth 12))
+    (λ returns. rw areas-grouped (search calls))
     (λ mark-all-grains-requires κs. search needs)
-    (λ same-length-4. search needs)
-    (λ returns-4. rw areas-grouped (search calls depth 12)))
+    (λ same-length-2. search needs)
+    (λ returns-2. rw areas-grouped (search calls)))

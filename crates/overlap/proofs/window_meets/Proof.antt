@@ -9,6 +9,6 @@ pub window-meets-spec : {M : Type 1} → statement M
 window-meets-spec =
     tie.close
     (tie.spec
-    (λ slice-aggregate-mark-all. search needs)
+    (λ slice-aggregate-mark-walk. search needs)
     (λ c κs. (search needs, c .before .before .pre))
-    (λ c. window-told _ 131072 refl (c .before .mark-all .ensures)))
+    (λ c. window-told _ 131072 refl (c .before .mark-walk .ensures)))

@@ -1,0 +1,2 @@
+pub mod CountedRun
+pub mod LentSteps

@@ -1,0 +1,4 @@
+pub mod Ascending
+pub mod AscendEntries
+pub mod Rising
+pub mod RowsHeld
