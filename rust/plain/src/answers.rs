@@ -21,6 +21,16 @@ pub struct Verdict {
     pub grain_size: u64,
 }
 
+/// The answer of the check in a lent list: the check's, and the number of sectors marked, which refusal 12 has too.
+#[derive(Clone, Copy, Debug, Default, PartialEq, Eq)]
+pub struct Marked {
+    pub number: u64,
+    pub place: u64,
+    pub capacity: u64,
+    pub grain_size: u64,
+    pub marked: u64,
+}
+
 /// What a header says, once refusals 1 to 7 are out of the way.
 #[derive(Clone, Copy, Debug, Default, PartialEq, Eq)]
 pub struct Head {

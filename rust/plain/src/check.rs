@@ -5,7 +5,7 @@ use crate::frame::{self, framed};
 use crate::image::{Entry, Image};
 
 /// The sectors of an area: the first, and how many.
-type Sectors = (u64, u64);
+pub type Sectors = (u64, u64);
 
 /// The public call.
 pub fn check(bytes: &[u8]) -> Verdict {
@@ -25,6 +25,13 @@ pub fn check(bytes: &[u8]) -> Verdict {
 
 /// The image, if it meets every rule.
 pub fn accept(bytes: &[u8]) -> Result<Image<'_>, Refusal> {
+    let (image, areas) = laid_out(bytes)?;
+    judge_apart(areas)?;
+    Ok(image)
+}
+
+/// The image and its areas in request A6's order, if it meets every rule but 12.
+pub fn laid_out(bytes: &[u8]) -> Result<(Image<'_>, Vec<Sectors>), Refusal> {
     let image = framed(bytes)?;
     let grains = grains(&image);
     for (grain, at) in &grains {
@@ -34,10 +41,8 @@ pub fn accept(bytes: &[u8]) -> Result<Image<'_>, Refusal> {
         image.judge_marker(*grain, *at)?;
     }
     judge_copies(&image)?;
-    if overlap(areas(&image, &grains)) {
-        return Err(refusal(12));
-    }
-    Ok(image)
+    let areas = areas(&image, &grains);
+    Ok((image, areas))
 }
 
 /// Every grain that the primary tables name, with its sector, in virtual order. Needs 8 passed.
@@ -77,7 +82,7 @@ fn judge_copies(image: &Image) -> Result<(), Refusal> {
     Ok(())
 }
 
-/// Every area of the image: the frame's and the grains.
+/// Every area of the image: the frame's, then the grains in virtual order.
 fn areas(image: &Image, grains: &[(u64, u64)]) -> Vec<Sectors> {
     let mut areas = Vec::new();
     for area in frame::areas(image) {
@@ -90,20 +95,34 @@ fn areas(image: &Image, grains: &[(u64, u64)]) -> Vec<Sectors> {
 }
 
 /// Refusal 12. In order of first sectors, two areas share a sector exactly if some area reaches the next one's first.
-fn overlap(mut areas: Vec<Sectors>) -> bool {
+pub fn judge_apart(mut areas: Vec<Sectors>) -> Result<(), Refusal> {
     areas.sort_unstable();
-    areas
+    if areas
         .windows(2)
         .any(|pair| pair[0].0 + pair[0].1 > pair[1].0)
+    {
+        return Err(refusal(12));
+    }
+    Ok(())
 }
 
 #[cfg(test)]
-mod tests {
-    use super::overlap;
+pub mod tests {
+    use super::{judge_apart, Sectors};
     use std::collections::HashSet;
 
+    /// Some areas below sector 71, other ones for each state.
+    pub fn scattered(state: &mut u64, count: usize) -> Vec<Sectors> {
+        let mut areas = Vec::new();
+        for _ in 0..count {
+            *state = state.wrapping_mul(6364136223846793005).wrapping_add(1);
+            areas.push((*state >> 58, 1 + (*state >> 50) % 7));
+        }
+        areas
+    }
+
     /// The same question, asked sector by sector.
-    fn shared(areas: &[(u64, u64)]) -> bool {
+    fn shared(areas: &[Sectors]) -> bool {
         let mut taken = HashSet::new();
         areas
             .iter()
@@ -112,15 +131,12 @@ mod tests {
 
     #[test]
     fn intervals_agree_with_a_set_of_sectors() {
-        let (mut state, mut clashes) = (7_u64, 0);
+        let (mut state, mut clashes) = (7, 0);
         for _ in 0..5000 {
-            let mut areas = Vec::new();
-            for _ in 0..6 {
-                state = state.wrapping_mul(6364136223846793005).wrapping_add(1);
-                areas.push((state >> 58, 1 + (state >> 50) % 7));
-            }
+            let areas = scattered(&mut state, 6);
             clashes += u32::from(shared(&areas));
-            assert_eq!(overlap(areas.clone()), shared(&areas), "{areas:?}");
+            let refused = judge_apart(areas.clone()).is_err();
+            assert_eq!(refused, shared(&areas), "{areas:?}");
         }
         assert!(clashes > 500 && clashes < 4900, "{clashes}");
     }

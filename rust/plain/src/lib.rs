@@ -6,6 +6,7 @@
 mod answers;
 mod chain;
 mod check;
+mod check_in;
 mod describe;
 mod frame;
 mod header;
@@ -18,11 +19,12 @@ mod survey;
 mod write;
 
 pub use answers::{
-    Described, Extent, Found, Framed, Head, Located, Part, Refusal, Surveyed, Verdict, Written,
-    ABSENT, PACKED, STORED, ZERO,
+    Described, Extent, Found, Framed, Head, Located, Marked, Part, Refusal, Surveyed, Verdict,
+    Written, ABSENT, PACKED, STORED, ZERO,
 };
 pub use chain::chain;
 pub use check::check;
+pub use check_in::check_in;
 pub use describe::{descriptor, find, MOST_EXTENTS, MOST_TEXT};
 pub use frame::frame;
 pub use header::header;

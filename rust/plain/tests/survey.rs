@@ -1,11 +1,14 @@
 //! The survey: rows, totals and tally of images laid out by hand.
 
 mod common;
+#[path = "common/faulty.rs"]
+mod faulty;
 #[path = "common/parts.rs"]
 mod parts;
 
 use common::{cowd, kdmv, put32, put64, set};
-use parts::{pack, put_entries, put_footer};
+use faulty::{faulty, mixed, stream};
+use parts::put_entries;
 use plain::{check, lookup, survey, Surveyed, ABSENT, PACKED, STORED, ZERO};
 
 /// What both lists hold before a call; no row and no tally has such a word.
@@ -65,54 +68,6 @@ fn counts(image: &[u8]) -> [u64; 4] {
     assert_eq!(row[4..], [0, 0]);
     assert_eq!(row[..4], by_lookup(image));
     [row[0], row[1], row[2], row[3]]
-}
-
-/// Five grains, the last of which capacity ends in: stored, zero, absent, stored, stored.
-fn mixed() -> Vec<u8> {
-    let mut image = kdmv(33, 8, 30);
-    put_entries(&mut image, 2, &[6, 1, 0, 14, 22]);
-    image
-}
-
-/// A stream of four grains, with its directory at the end: packed, zero, packed, absent.
-fn stream() -> Vec<u8> {
-    let mut image = kdmv(25, 8, 12);
-    pack(&mut image);
-    put_entries(&mut image, 2, &[6, 1, 9, 0]);
-    put32(&mut image, 6 * 512 + 8, 513);
-    put64(&mut image, 9 * 512, 16);
-    put32(&mut image, 9 * 512 + 8, 1);
-    put_footer(&mut image, 1);
-    image
-}
-
-/// A refused image for each number from 1 to 12; 9 and 10 at grains 3 and 2.
-fn faulty() -> Vec<Vec<u8>> {
-    let mut images = vec![b"KDM".to_vec(), b"KDMW".to_vec()];
-    for (at, value) in [(4, 4), (73, 0), (8, 9), (44, 1)] {
-        let mut image = mixed();
-        image[at] = value;
-        images.push(image);
-    }
-    let mut footer = stream();
-    footer[11 * 512] = 1;
-    images.push(footer);
-    let mut frame = mixed();
-    put_entries(&mut frame, 1, &[27]);
-    images.push(frame);
-    let mut past = mixed();
-    put_entries(&mut past, 2, &[6, 1, 0, 23, 30]);
-    images.push(past);
-    let mut marker = stream();
-    put64(&mut marker, 9 * 512, 17);
-    images.push(marker);
-    let mut copies = kdmv(33, 8, 40);
-    put64(&mut copies, 48, 10);
-    images.push(copies);
-    let mut shared = mixed();
-    set(&mut shared, 3, 13);
-    images.push(shared);
-    images
 }
 
 #[test]
