@@ -36,12 +36,13 @@ def edits():
 def lacks(call, wrong):
     """Each place that a call has to have, and does not."""
     binding, plain, compare = (f"rust/{package}/src/**/*.rs" for package in ("anhkhovet", "plain", "compare"))
+    theorem = call.replace("_", "-")
     places = {
         "two must-fail edits with a line '# call:'": len(wrong) >= 2,
-        f"`{call}-determined` in crates/exports/proofs/Determined*.antt":
-            f"{call}-determined" in names("crates/exports/proofs/Determined*.antt"),
-        f"`{call}-varies` in crates/laws/proofs/NotConstant*.antt":
-            f"{call}-varies" in names("crates/laws/proofs/NotConstant*.antt"),
+        f"`{theorem}-determined` in crates/exports/proofs/Determined*.antt":
+            f"{theorem}-determined" in names("crates/exports/proofs/Determined*.antt"),
+        f"`{theorem}-varies` in crates/laws/proofs/NotConstant*.antt":
+            f"{theorem}-varies" in names("crates/laws/proofs/NotConstant*.antt"),
         "a row in docs/PROMISES.md, Public calls": f"| `anhkhovet_{call}` |" in text("docs/PROMISES.md"),
         f"a line '{call} ..' in crates/cases/stdout": re.search(rf"(?m)^{call} ", text("crates/cases/stdout")),
         f"`anhkhovet_{call}` declared in rust/anhkhovet": f"pub fn anhkhovet_{call}(" in text(binding),
@@ -60,14 +61,17 @@ def lacks(call, wrong):
     return [place for place, there in places.items() if not there]
 
 
+def theorems(pattern, ending):
+    """The calls that theorems with this ending are about; where a call has an underscore, they have a hyphen."""
+    return [name.replace("-", "_") for name in re.findall(rf"(\S+)-{ending}", " ".join(names(pattern)))]
+
+
 def strangers(wrong):
     """What names a call that is not there."""
     cited = {
         "a must-fail edit": wrong,
-        "crates/exports/proofs/Determined*.antt":
-            re.findall(r"(\S+)-determined", " ".join(names("crates/exports/proofs/Determined*.antt"))),
-        "crates/laws/proofs/NotConstant*.antt":
-            re.findall(r"(\S+)-varies", " ".join(names("crates/laws/proofs/NotConstant*.antt"))),
+        "crates/exports/proofs/Determined*.antt": theorems("crates/exports/proofs/Determined*.antt", "determined"),
+        "crates/laws/proofs/NotConstant*.antt": theorems("crates/laws/proofs/NotConstant*.antt", "varies"),
         "docs": re.findall(r"`anhkhovet_(\w+)`", text("docs/PROMISES.md", "docs/TOOL.md", "docs/EDITS.md")),
         "rust/anhkhovet": re.findall(r"pub fn anhkhovet_(\w+)\(", text("rust/anhkhovet/src/**/*.rs")),
     }

@@ -18,6 +18,10 @@ answer! {
     Verdict { number, place, capacity, grain_size }
 }
 answer! {
+    /// The answer of the check in a lent list: the full check's, and the number of sectors marked, which refusal 12 has too.
+    Marked { number, place, capacity, grain_size, marked }
+}
+answer! {
     /// What a header says; the refusals are 1 to 7 only. A dirty number other than 0: the disk was still open.
     Head { number, place, capacity, grain_size, descriptor, descriptor_sectors, dirty }
 }
@@ -58,6 +62,12 @@ answer! {
 
 extern "C" {
     pub fn anhkhovet_check(image: *const u8, length: usize) -> Verdict;
+    pub fn anhkhovet_check_in(
+        image: *const u8,
+        length: usize,
+        list: *mut u64,
+        list_length: usize,
+    ) -> Marked;
     pub fn anhkhovet_header(image: *const u8, length: usize) -> Head;
     pub fn anhkhovet_lookup(image: *const u8, length: usize, sector: u64) -> Located;
     pub fn anhkhovet_chain(

@@ -36,7 +36,7 @@ impl Header {
 ///
 /// Refusals: 1 to 12, the first that applies.
 ///
-/// It needs [`STACK`](crate::STACK) bytes of stack.
+/// It needs [`STACK`](crate::STACK) bytes of stack; [`check_in`](crate::check_in) does with little.
 ///
 #[doc = concat!("```\n", include_str!("../examples/check.rs"), "```")]
 pub fn check(image: &[u8]) -> Result<Disk, Refusal> {

@@ -4,7 +4,8 @@
 //! what breaks a rule is a [`Refusal`], never a fault. What each call answers is document 01's and is proved in `crates/`; the
 //! calls of [`raw`] give the same answers as plain numbers, with no list of their own.
 //!
-//! - [`check`] judges a whole image, [`header`] its header alone; [`frame`] lists what of it is no grain.
+//! - [`check`] judges a whole image, and [`check_in`] does so in memory that is lent; [`header`] judges its header alone, and
+//!   [`frame`] lists what of it is no grain.
 //! - [`survey`] judges many images and counts their grains.
 //! - [`lookup`] says where a sector comes from, [`chain`] the same for layers on top of each other, and [`read`] hands over
 //!   its bytes.
@@ -20,7 +21,8 @@
 //! Five calls keep a mark for each of some eight million sectors on the stack: [`check`], and [`survey`], [`normal`],
 //! [`collapse`] and [`split`], which check. A thread that makes one of them needs [`STACK`] bytes for it beside what it uses itself, or the process ends at the
 //! guard below its stack, with nothing overwritten. A main thread has 8 MiB unless `ulimit -s` says less, and a thread of
-//! Rust's 2 MiB unless it is asked for less. Every other call does with less than 16 KiB, and none of them calls itself.
+//! Rust's 2 MiB unless it is asked for less. Every other call does with less than 16 KiB, and none of them calls itself: so
+//! [`check_in`], which is [`check`] with its marks in a list of the caller's, runs in a small fixed space.
 //!
 //! # The archive
 //!
@@ -32,6 +34,7 @@ mod areas;
 mod disks;
 mod face;
 mod images;
+mod marks;
 pub mod raw;
 mod refusal;
 mod sectors;
@@ -42,6 +45,7 @@ mod writing;
 pub use areas::{frame, Area, Group};
 pub use disks::{split, Placed, SplitRefusal};
 pub use images::{check, header, Disk, Header};
+pub use marks::{check_in, words_needed, Marked, MarkedRefusal};
 pub use refusal::{ChainRefusal, Counted, Refusal};
 pub use sectors::{chain, lookup, read, read_part, Located, Source};
 pub use surveys::{survey, Counts, Survey, Tallied};

@@ -6,7 +6,9 @@
 
 use crate::face;
 
-pub use face::{Described, Extent, Found, Framed, Head, Located, Part, Surveyed, Verdict, Written};
+pub use face::{
+    Described, Extent, Found, Framed, Head, Located, Marked, Part, Surveyed, Verdict, Written,
+};
 
 /// The full check: refusals 1 to 12, or capacity and grain size.
 ///
@@ -14,6 +16,16 @@ pub use face::{Described, Extent, Found, Framed, Head, Located, Part, Surveyed, 
 pub fn check(image: &[u8]) -> Verdict {
     // SAFETY: see the top of the file.
     unsafe { face::anhkhovet_check(image.as_ptr(), image.len()) }
+}
+
+/// The full check with its marks in a list of the caller's, one word for every 64 sectors of the file, rounded up: refusals 1
+/// to 11, then 21 for a list that is too short, then 12. It needs less than 16 KiB of stack.
+///
+/// Whatever the list held does not count. After acceptance and 12 the words that are needed are 0; on every other refusal they
+/// keep what they held, as the rest of the list does always.
+pub fn check_in(image: &[u8], list: &mut [u64]) -> Marked {
+    // SAFETY: see the top of the file.
+    unsafe { face::anhkhovet_check_in(image.as_ptr(), image.len(), list.as_mut_ptr(), list.len()) }
 }
 
 /// The header alone: refusals 1 to 7.

@@ -69,7 +69,7 @@ impl Refusal {
             11 => "the redundant directory and its tables are not equal to the primary ones",
             12 => "two areas of the file share a sector",
             20 => "the sector is at or past the end of the disk",
-            21 => "the output is too short for the result",
+            21 => "the output or the list is too short for the result",
             22 => "the images do not have the same capacity and grain size",
             23 => "a COWD or compressed image can be neither collapsed nor brought to normal form",
             24 => "a chain has 1 to 16 layers, a survey 1 to 1,024 images, a disk of several files one for each extent",

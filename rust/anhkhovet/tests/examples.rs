@@ -28,6 +28,7 @@ macro_rules! examples {
 examples! {
     chain "chain.rs"
     check "check.rs"
+    check_in "check_in.rs"
     collapse "collapse.rs"
     descriptor "descriptor.rs"
     frame "frame.rs"

@@ -1,12 +1,12 @@
 //! Each call on a thread with the stack that the documentation states, and images that all of them go through to the end.
 
 use anhkhovet::{
-    chain, check, collapse, descriptor, find, frame, header, lookup, normal, read, split, survey,
-    STACK,
+    chain, check, check_in, collapse, descriptor, find, frame, header, lookup, normal, raw, read,
+    split, survey, words_needed, STACK,
 };
 use std::{fs, thread};
 
-/// What the documentation states for the calls that do not check.
+/// What the documentation states for all other calls.
 const LITTLE: usize = 16 << 10;
 
 fn sample(name: &str) -> Vec<u8> {
@@ -60,6 +60,65 @@ fn calls_on_sectors() {
     on(LITTLE, move || {
         assert!((0..2048).all(|sector| chain(&layers, &lengths, sector).is_ok()));
     });
+}
+
+/// A list that is just long enough, of ones.
+fn list(image: &[u8]) -> Vec<u64> {
+    vec![u64::MAX; words_needed(image.len() as u64) as usize]
+}
+
+#[test]
+fn the_check_in_a_lent_list() {
+    let images = ["tool-base", "tool-packed", "vmdkstream", "cowd-s001"].map(sample);
+    let mut lists: Vec<Vec<u64>> = images.iter().map(|image| list(image)).collect();
+    on(LITTLE, move || {
+        for (image, list) in images.iter().zip(&mut lists) {
+            assert!(check_in(image, list).is_ok());
+        }
+    });
+}
+
+/// Tables of the long image, and the first sector behind them.
+const TABLES: usize = 210;
+const BEHIND: usize = 4 + 4 * TABLES;
+
+/// A file of over 4 GiB whose grains of 8 sectors stand 80 sectors apart, but for the last; a few pages are touched.
+fn long(last: u32) -> Vec<u8> {
+    let mut image = vec![0; 512 * (BEHIND + 80 * 512 * TABLES)];
+    let mut put = |at: usize, bytes: &[u8]| image[at..at + bytes.len()].copy_from_slice(bytes);
+    put(0, b"KDMV");
+    put(4, &1u32.to_le_bytes());
+    put(12, &(512 * 8 * TABLES as u64).to_le_bytes());
+    put(20, &8u64.to_le_bytes());
+    put(44, &512u32.to_le_bytes());
+    put(56, &1u64.to_le_bytes());
+    for table in 0..TABLES {
+        put(512 + 4 * table, &(4 + 4 * table as u32).to_le_bytes());
+    }
+    for grain in 0..512 * TABLES {
+        let sector = (BEHIND + 80 * grain) as u32;
+        put(4 * 512 + 4 * grain, &sector.to_le_bytes());
+    }
+    put(512 * BEHIND - 4, &last.to_le_bytes());
+    image
+}
+
+#[test]
+fn the_check_in_a_lent_list_of_a_long_image() {
+    // The last grain on the one before it, and behind that one.
+    let grains = 512 * TABLES;
+    let before = (BEHIND + 80 * (grains - 2)) as u32;
+    for (last, number, marked) in [(before + 7, 12, grains - 1), (before + 8, 0, grains)] {
+        let image = long(last);
+        let mut list = list(&image);
+        assert!(image.len() > 1 << 32);
+        on(LITTLE, move || {
+            let found = raw::check_in(&image, &mut list);
+            let sum = 1 + 2 + 4 * TABLES + 8 * marked;
+            assert_eq!((found.number, found.marked), (number, sum as u64));
+            assert!(list.iter().all(|word| *word == 0));
+        });
+    }
 }
 
 #[test]

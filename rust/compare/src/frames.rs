@@ -7,14 +7,10 @@ use crate::tally::Call;
 use plain::Verdict;
 
 impl Run<'_> {
-    /// Both lists hold the same words before, and are compared word for word after.
     pub fn frame(&mut self, image: &[u8], list: &[u64]) {
-        let mut lists = [list.to_vec(), list.to_vec()];
-        let tested = self.sides[0].frame(image, &mut lists[0]);
-        let plain = self.sides[1].frame(image, &mut lists[1]);
-        let lent = lists[0] == lists[1];
-        let words = (list.len(), if lent { &[] } else { &lists[..] });
-        self.compare(Call::Frame, [&tested, &plain], lent, &[image], &words);
+        let (plain, words) = self.lend(Call::Frame, image, list, |side, list| {
+            side.frame(image, list)
+        });
         let head = plain::header(image);
         let verdict = Verdict {
             number: plain.number,
@@ -24,7 +20,7 @@ impl Run<'_> {
         };
         self.count_accepted(Call::Frame, verdict, image);
         if plain.number == 0 {
-            self.count_framed(image, &lists[1][..3 * plain.count as usize], list.len());
+            self.count_framed(image, &words[..3 * plain.count as usize], list.len());
         }
     }
 
@@ -58,18 +54,19 @@ pub fn case(run: &mut Run, rng: &mut Rng, image: &[u8]) {
 
 /// Asks for the frame in a list that holds any words.
 pub fn ask(run: &mut Run, rng: &mut Rng, image: &[u8]) {
-    let room = room(rng, needed(image));
+    let room = room(rng, areas(image).len() as u64);
     let list: Vec<u64> = (0..room).map(|_| rng.any()).collect();
     run.frame(image, &list);
 }
 
 /// The words of an image's frame, none where it is refused, found by lists of twice the length each.
-fn needed(image: &[u8]) -> u64 {
+pub fn areas(image: &[u8]) -> Vec<u64> {
     let mut list = vec![0; 96];
     loop {
         let framed = plain::frame(image, &mut list);
         if framed.number != 21 {
-            return 3 * framed.count;
+            list.truncate(3 * framed.count as usize);
+            return list;
         }
         list.resize(2 * list.len(), 0);
     }

@@ -7,6 +7,7 @@ pub mod far;
 mod frames;
 mod image;
 mod lists;
+pub mod marks;
 mod ones;
 pub mod rng;
 pub mod run;

@@ -1,8 +1,36 @@
-//! Lists of extent records, and lists of layer lengths.
+//! Lists of extent records, lists of layer lengths, and lists that are lent to a call.
 
 use crate::rng::Rng;
 use crate::run::Run;
+use crate::side::Side;
+use crate::tally::Call;
 use plain::Extent;
+use std::fmt::Debug;
+
+impl Run<'_> {
+    /// Both lists hold the same before the call, and are compared whole after it. The plain side's answer, and its list.
+    pub(crate) fn lend<T, A>(
+        &mut self,
+        call: Call,
+        input: &[u8],
+        list: &[T],
+        ask: impl Fn(&dyn Side, &mut [T]) -> A,
+    ) -> (A, Vec<T>)
+    where
+        T: Clone + Debug + PartialEq,
+        A: Debug + PartialEq,
+    {
+        let [mut ours, mut theirs] = [list.to_vec(), list.to_vec()];
+        let tested = ask(self.sides[0], &mut ours);
+        let plain = ask(self.sides[1], &mut theirs);
+        let mut pairs = ours.iter().zip(&theirs).enumerate();
+        let differing = pairs.find(|(_, (one, other))| one != other);
+        let words = (list.len(), &differing);
+        let lent = differing.is_none();
+        self.compare(call, [&tested, &plain], lent, &[input], &words);
+        (plain, theirs)
+    }
+}
 
 /// A record of any numbers, which no call may take for sound.
 pub fn record(rng: &mut Rng) -> Extent {

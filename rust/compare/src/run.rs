@@ -253,12 +253,9 @@ impl<'a> Run<'a> {
     }
 
     pub fn descriptor(&mut self, text: &[u8], list: &[Extent]) {
-        let mut lists = [list.to_vec(), list.to_vec()];
-        let tested = self.sides[0].descriptor(text, &mut lists[0]);
-        let plain = self.sides[1].descriptor(text, &mut lists[1]);
-        let lent = lists[0] == lists[1];
-        let words = (list.len(), if lent { &[] } else { &lists[..] });
-        self.compare(Call::Descriptor, [&tested, &plain], lent, &[text], &words);
+        let (plain, _) = self.lend(Call::Descriptor, text, list, |side, list| {
+            side.descriptor(text, list)
+        });
         if plain.number != 0 {
             self.tally.refused(Call::Descriptor, plain.number);
             return;

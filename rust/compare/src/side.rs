@@ -1,9 +1,12 @@
 //! The two sides behind one trait. Answers are the plain side's structs.
 
-use plain::{Described, Extent, Found, Framed, Head, Located, Part, Surveyed, Verdict, Written};
+use plain::{
+    Described, Extent, Found, Framed, Head, Located, Marked, Part, Surveyed, Verdict, Written,
+};
 
 pub trait Side {
     fn check(&self, image: &[u8]) -> Verdict;
+    fn check_in(&self, image: &[u8], list: &mut [u64]) -> Marked;
     fn header(&self, image: &[u8]) -> Head;
     fn lookup(&self, image: &[u8], sector: u64) -> Located;
     fn chain(&self, layers: &[u8], lengths: &[u64], sector: u64) -> Located;
@@ -29,6 +32,9 @@ pub struct Plain;
 impl Side for Plain {
     fn check(&self, image: &[u8]) -> Verdict {
         plain::check(image)
+    }
+    fn check_in(&self, image: &[u8], list: &mut [u64]) -> Marked {
+        plain::check_in(image, list)
     }
     fn header(&self, image: &[u8]) -> Head {
         plain::header(image)
@@ -92,6 +98,9 @@ mod proved {
     impl Side for Proved {
         fn check(&self, image: &[u8]) -> Verdict {
             same!(raw::check(image) => Verdict { number, place, capacity, grain_size })
+        }
+        fn check_in(&self, image: &[u8], list: &mut [u64]) -> Marked {
+            same!(raw::check_in(image, list) => Marked { number, place, capacity, grain_size, marked })
         }
         fn header(&self, image: &[u8]) -> Head {
             same!(raw::header(image) => Head { number, place, capacity, grain_size, descriptor, descriptor_sectors, dirty })

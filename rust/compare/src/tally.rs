@@ -5,6 +5,7 @@ use std::fmt::{self, Write};
 #[derive(Clone, Copy, Debug, PartialEq, Eq)]
 pub enum Call {
     Check,
+    CheckIn,
     Header,
     Lookup,
     Chain,
@@ -20,8 +21,9 @@ pub enum Call {
 
 use Call::*;
 
-const CALLS: [(Call, &str); 12] = [
+const CALLS: [(Call, &str); 13] = [
     (Check, "check"),
+    (CheckIn, "check_in"),
     (Header, "header"),
     (Lookup, "lookup"),
     (Chain, "chain"),
@@ -42,30 +44,33 @@ impl Call {
     }
 }
 
+/// The calls whose answers are counted by what the image's header has.
+const JUDGES: &[Call] = &[Check, CheckIn, Header, Frame, Survey];
+
 /// Kinds of answers, with the calls that can give them.
-const ANSWERS: [(&str, &[Call]); 67] = [
-    ("accepted KDMV", &[Check, Header, Frame, Survey]),
-    ("accepted COWD", &[Check, Header, Frame, Survey]),
-    ("accepted, footer", &[Check, Header, Frame, Survey]),
-    ("accepted, redundant", &[Check, Header, Frame, Survey]),
-    ("accepted, descriptor", &[Check, Header, Frame, Survey]),
-    ("accepted, packed", &[Check, Header, Frame, Survey]),
-    ("accepted, n above 1", &[Check, Header, Frame, Survey]),
-    ("accepted, odd length", &[Check, Header, Frame, Survey]),
+const ANSWERS: [(&str, &[Call]); 84] = [
+    ("accepted KDMV", JUDGES),
+    ("accepted COWD", JUDGES),
+    ("accepted, footer", JUDGES),
+    ("accepted, redundant", JUDGES),
+    ("accepted, descriptor", JUDGES),
+    ("accepted, packed", JUDGES),
+    ("accepted, n above 1", JUDGES),
+    ("accepted, odd length", JUDGES),
     // Request A2: what an entry of 1 is and names, and the refusals that it can lead to.
-    ("accepted, 1 is zeros", &[Check, Header, Frame, Survey]),
-    ("accepted, 1 a sector", &[Check, Header, Frame, Survey]),
-    ("accepted, table at 1", &[Check, Frame, Survey]),
-    ("accepted, copy at 1", &[Check, Frame, Survey]),
-    ("accepted, grain at 1", &[Check, Survey]),
-    ("5, flag 0x4 alone", &[Check, Header, Frame, Survey]),
-    ("9, grain at 1", &[Check]),
-    ("11, zeros and absent", &[Check]),
-    ("11, zeros and a table", &[Check]),
-    ("11, 1 and absent", &[Check]),
-    ("11, 1 and a table", &[Check]),
-    ("12, 1 and 2", &[Check]),
-    ("12, entry 1", &[Check]),
+    ("accepted, 1 is zeros", JUDGES),
+    ("accepted, 1 a sector", JUDGES),
+    ("accepted, table at 1", &[Check, CheckIn, Frame, Survey]),
+    ("accepted, copy at 1", &[Check, CheckIn, Frame, Survey]),
+    ("accepted, grain at 1", &[Check, CheckIn, Survey]),
+    ("5, flag 0x4 alone", JUDGES),
+    ("9, grain at 1", &[Check, CheckIn]),
+    ("11, zeros and absent", &[Check, CheckIn]),
+    ("11, zeros and a table", &[Check, CheckIn]),
+    ("11, 1 and absent", &[Check, CheckIn]),
+    ("11, 1 and a table", &[Check, CheckIn]),
+    ("12, 1 and 2", &[Check, CheckIn]),
+    ("12, entry 1", &[Check, CheckIn]),
     ("absent", &[Lookup, Chain, Survey, Split]),
     ("zero", &[Lookup, Chain, Survey, Split]),
     ("stored", &[Lookup, Chain, Read, Survey, Split]),
@@ -78,8 +83,14 @@ const ANSWERS: [(&str, &[Call]); 67] = [
     ("refused by the check", &[Frame]),
     ("image of no bytes", &[Survey]),
     ("1,024 images", &[Survey]),
-    ("written, exact room", &[Frame, Survey, Normal, Collapse]),
-    ("written, room left", &[Frame, Survey, Normal, Collapse]),
+    (
+        "written, exact room",
+        &[CheckIn, Frame, Survey, Normal, Collapse],
+    ),
+    (
+        "written, room left",
+        &[CheckIn, Frame, Survey, Normal, Collapse],
+    ),
     ("written, grain at 1", &[Normal, Collapse]),
     ("described", &[Descriptor]),
     ("described, 32 extents", &[Descriptor]),
@@ -100,10 +111,10 @@ const ANSWERS: [(&str, &[Call]); 67] = [
     ("24, sector past", &[Split]),
     ("1 to 12, 38 too", &[Split]),
     // Request A5: what dirty images are answered, and where two refusals would hold.
-    ("accepted, dirty KDMV", &[Check, Header, Frame, Survey]),
-    ("accepted, dirty footer", &[Check, Header, Frame, Survey]),
-    ("accepted, dirty COWD", &[Check, Header, Frame, Survey]),
-    ("accepted, low byte 0", &[Check, Header, Frame, Survey]),
+    ("accepted, dirty KDMV", JUDGES),
+    ("accepted, dirty footer", JUDGES),
+    ("accepted, dirty COWD", JUDGES),
+    ("accepted, low byte 0", JUDGES),
     ("from a dirty image", &[Lookup, Chain, Read, Split]),
     ("27, lower alone", &[Collapse]),
     ("27, upper alone", &[Collapse]),
@@ -114,12 +125,31 @@ const ANSWERS: [(&str, &[Call]); 67] = [
     ("8 to 12, 27 too", &[Normal, Collapse]),
     ("23, 27 too", &[Normal, Collapse]),
     ("22, 27 too", &[Collapse]),
+    // Request A6: by the first area that meets an earlier one, by F and the list's length, and by what the list held.
+    ("12, directory", &[CheckIn]),
+    ("12, redundant", &[CheckIn]),
+    ("12, primary table", &[CheckIn]),
+    ("12, redundant table", &[CheckIn]),
+    ("12, footer", &[CheckIn]),
+    ("12, last sector", &[CheckIn]),
+    ("12, grain", &[CheckIn]),
+    ("all of F marked", &[CheckIn]),
+    ("exact, 64 divides F", &[CheckIn]),
+    ("exact, F is one more", &[CheckIn]),
+    ("short, 64 divides F", &[CheckIn]),
+    ("short, F is one more", &[CheckIn]),
+    ("21, else accepted", &[CheckIn]),
+    ("21, 12 too", &[CheckIn]),
+    ("9 to 11, 21 too", &[CheckIn]),
+    ("written, held zeros", &[CheckIn]),
+    ("written, held ones", &[CheckIn]),
 ];
 
 /// The refusals of documents 01 and 02, with the calls that can give them, a survey in its rows too; 37 is the program's own.
 fn gives(number: u64, call: Call) -> bool {
     match call {
         Check => (1..=12).contains(&number),
+        CheckIn => (1..=12).contains(&number) || number == 21,
         Header => (1..=7).contains(&number),
         Lookup => (1..=10).contains(&number) || number == 20,
         Chain => (1..=10).contains(&number) || [20, 22, 24].contains(&number),

@@ -1,12 +1,12 @@
 //! The generators: sound inputs are accepted and say what they were made to say, whatever stands in unused places.
 
 use crate::disks::Disk;
-use crate::image::{build, suited, unused, Built, Cell, Plan, Shape, What};
+use crate::image::{build, meet, suited, unused, Built, Cell, Plan, Shape, What};
 use crate::rng::Rng;
 use crate::text;
 use plain::{
-    check, collapse, descriptor, frame, header, lookup, normal, read, split, survey, Extent,
-    Located, ABSENT, PACKED, STORED, ZERO,
+    check, check_in, collapse, descriptor, frame, header, lookup, normal, read, split, survey,
+    Extent, Located, ABSENT, PACKED, STORED, ZERO,
 };
 use std::collections::BTreeSet;
 
@@ -116,6 +116,25 @@ fn frames_have_what_was_built() {
         assert_eq!(list, expected, "{case}: {:?}", built.shape);
     }
     assert_eq!(groups.len(), 8, "{groups:?}");
+}
+
+#[test]
+fn checks_in_a_list_mark_what_was_built() {
+    let mut met = 0;
+    for case in 0..600 {
+        let rng = &mut Rng::new(13, case);
+        let mut built = sound(rng, suited(any(100), case));
+        let sum: u64 = built.areas.iter().map(|area| area.sectors).sum();
+        let mut list = vec![u64::MAX; (built.sectors() as usize + 63) / 64];
+        let found = check_in(&built.bytes, &mut list);
+        assert_eq!((found.number, found.marked), (0, sum), "{case}");
+        assert!(list.iter().all(|word| *word == 0), "{case}");
+        meet(rng, &mut built);
+        let found = check_in(&built.bytes, &mut list);
+        assert!(found.marked <= built.sectors(), "{case}: {found:?}");
+        met += u64::from(found.number == 12);
+    }
+    assert!(met > 200, "{met}");
 }
 
 #[test]

@@ -2,6 +2,8 @@
 //! and a grain across the boundary. The memory is asked for as zeros, so that only what is touched takes room.
 #![cfg(feature = "proved")]
 
+use anhkhovet::raw::{check, check_in};
+
 const WINDOW: u32 = 8_388_608;
 const GRAIN: u32 = 128;
 
@@ -22,9 +24,19 @@ fn image(grains: [u32; 4]) -> Vec<u8> {
     image
 }
 
+/// The number of the check, which in a lent list is the same; the list of ones becomes zeros.
 fn refusal(grains: [u32; 4]) -> u64 {
-    let verdict = anhkhovet::raw::check(&image(grains));
+    let image = image(grains);
+    let verdict = check(&image);
     assert_eq!(verdict.place, 0);
+    let mut list = vec![u64::MAX; image.len() / 512 / 64];
+    let found = check_in(&image, &mut list);
+    assert_eq!((found.number, found.place), (verdict.number, 0));
+    assert!(list.iter().all(|word| *word == 0));
+    // Header, directory, table and the grains that are there; the one that meets is the last of them.
+    let there = grains.iter().filter(|sector| **sector != 0).count() as u64;
+    let meeting = u64::from(verdict.number == 12);
+    assert_eq!(found.marked, 6 + (there - meeting) * u64::from(GRAIN));
     verdict.number
 }
 
@@ -48,6 +60,22 @@ fn a_grain_across_the_boundary_is_marked_on_both_sides() {
     assert_eq!(refusal([128, across, across + GRAIN, 0]), 0);
     assert_eq!(refusal([128, across, across - GRAIN + 1, 0]), 12);
     assert_eq!(refusal([128, across, across - GRAIN, 0]), 0);
+}
+
+#[test]
+fn a_lent_list_has_a_word_for_every_64_sectors_of_both_windows() {
+    let image = image([128, WINDOW, 0, 0]);
+    let words = WINDOW as usize / 64 + 31;
+    for (sectors, needed) in [(1984, words), (1985, words + 1), (2048, words + 1)] {
+        let image = &image[..512 * (WINDOW as usize + sectors)];
+        let mut list = vec![7; needed + 1];
+        assert_eq!(check_in(image, &mut list[..needed - 1]).number, 21);
+        assert!(list.iter().all(|word| *word == 7), "{sectors}");
+        let found = check_in(image, &mut list);
+        assert_eq!((found.number, found.marked), (0, 6 + 256), "{sectors}");
+        assert!(list[..needed].iter().all(|word| *word == 0), "{sectors}");
+        assert_eq!(list[needed], 7);
+    }
 }
 
 #[test]

@@ -1,6 +1,7 @@
 //! A side with one deliberate mistake must be caught, each of document 01's "mistakes to shut out" among them.
 
 mod dirty;
+mod marks;
 mod miscounts;
 mod ones;
 mod splits;
@@ -9,7 +10,9 @@ use compare::cases::run_cases;
 use compare::run::Run;
 use compare::side::{Plain, Side};
 use compare::tally::{Call, Tally};
-use plain::{Described, Extent, Found, Framed, Head, Located, Part, Surveyed, Verdict, Written};
+use plain::{
+    Described, Extent, Found, Framed, Head, Located, Marked, Part, Surveyed, Verdict, Written,
+};
 use std::path::PathBuf;
 
 /// The plain side with one mistake.
@@ -51,6 +54,7 @@ enum Mistake {
     EndThatWraps,
     Split(splits::Mistake),
     Dirty(dirty::Mistake),
+    Marks(marks::Mistake),
 }
 
 use Mistake::*;
@@ -105,6 +109,13 @@ impl Side for Mistake {
         match self {
             Dirty(mistake) => mistake.check(verdict, image),
             _ => verdict,
+        }
+    }
+
+    fn check_in(&self, image: &[u8], list: &mut [u64]) -> Marked {
+        match self {
+            Marks(mistake) => mistake.check_in(image, list),
+            _ => Plain.check_in(image, list),
         }
     }
 
@@ -182,26 +193,7 @@ impl Side for Mistake {
         rows: &mut [u64],
         tally: &mut [u64],
     ) -> Surveyed {
-        let before = tally.to_vec();
-        let mut surveyed = Plain.survey(images, lengths, rows, tally);
-        match (self, surveyed.number) {
-            (NumberAtItsOwnWord, 0) => tally[..63].rotate_right(1),
-            (TallyAddedTo, 0) => {
-                for (word, held) in tally[..63].iter_mut().zip(before) {
-                    *word = word.wrapping_add(held);
-                }
-            }
-            (WordPastTheRows, 0) => rows[6 * lengths.len()..].fill(0),
-            (ListsBefore21, 21) => {
-                rows.fill(0);
-                tally.fill(0);
-            }
-            (OneImageTooMany, 24) if lengths.len() == 1025 => surveyed.number = 21,
-            (SumThatWraps, 24) if wrapped(lengths) == images.len() as u64 => surveyed.number = 21,
-            (_, 0) => self.miscount(images, lengths, rows, &mut surveyed),
-            _ => {}
-        }
-        surveyed
+        self.survey_wrongly(images, lengths, rows, tally)
     }
 
     fn normal(&self, image: &[u8], out: &mut [u8]) -> Written {
@@ -272,6 +264,7 @@ fn tally(mistake: Mistake, count: u64) -> Tally {
 fn each_mistake_is_caught() {
     let others = splits::ALL.map(Split).into_iter();
     let others = others.chain(dirty::ALL.map(Dirty));
+    let others = others.chain(marks::ALL.map(Marks));
     for mistake in ALL.into_iter().chain(others) {
         // Few cases catch most, and as many as the gate runs the others.
         let caught = |count| {
@@ -287,4 +280,12 @@ fn the_plain_side_agrees_with_itself_and_reaches_every_place() {
     let tally = tally(Mistake::None, 100_000);
     assert_eq!(tally.differences, 0);
     assert!(tally.good(), "{tally}");
+}
+
+#[test]
+fn sectors_marked_are_those_of_frame_and_lookups() {
+    assert_eq!(
+        tally(Marks(marks::Mistake::Recounted), 50_000).differences,
+        0
+    );
 }

@@ -20,7 +20,7 @@ fn stored_files() {
 #[test]
 fn small_input() {
     let input = std::fs::read(root().join("crates/cases/stdin")).unwrap();
-    assert!(input.len() <= 1_850_000, "{} bytes", input.len());
+    assert!(input.len() <= 2_050_000, "{} bytes", input.len());
 }
 
 /// The stored surveys have images of each refusal number of the check.
@@ -64,6 +64,7 @@ fn every_refusal() {
     let check: Vec<u64> = (0..=12).collect();
     let wanted = [
         ("check", check.clone()),
+        ("check_in", check.iter().copied().chain([21]).collect()),
         ("header", (0..=7).collect()),
         ("lookup", (0..=10).chain([20]).collect()),
         ("chain", (0..=10).chain([20, 22, 24]).collect()),

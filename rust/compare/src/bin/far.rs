@@ -13,6 +13,7 @@ fn main() {
     let [count, seed, first] = numbers("far", 10_000);
     let calls = vec![
         Call::Check,
+        Call::CheckIn,
         Call::Lookup,
         Call::Read,
         Call::Frame,

@@ -66,18 +66,17 @@ fn header(rng: &mut Rng, built: &mut Built) {
     }
 }
 
+/// The areas that a pointer says the place of: one at least, since each image has a directory.
+fn movable(built: &Built) -> Vec<Area> {
+    let areas = built.areas.iter();
+    let pointed = areas.filter(|area| !area.pointers.is_empty());
+    pointed.cloned().collect()
+}
+
 /// An area's pointers get another place; perhaps its content goes there too.
 fn move_area(rng: &mut Rng, built: &mut Built) {
-    let movable: Vec<Area> = built
-        .areas
-        .iter()
-        .filter(|area| !area.pointers.is_empty())
-        .cloned()
-        .collect();
-    let area = match movable.len() {
-        0 => return,
-        count => &movable[rng.index(count)],
-    };
+    let movable = movable(built);
+    let area = &movable[rng.index(movable.len())];
     let value = place(rng, built, area.sectors, area.pointers[0].size);
     if rng.one_in(2) {
         copy(built, area, value);
@@ -90,6 +89,57 @@ fn move_area(rng: &mut Rng, built: &mut Built) {
         }
     }
     ask_about(built, area.what);
+}
+
+/// Lets an area share a sector with another one: a descriptor, whose bytes are not judged, more often than the others, and with
+/// the file's last two more often, since few images have them.
+pub fn meet(rng: &mut Rng, built: &mut Built) {
+    let at_end = built.shape.footer && !rng.one_in(4);
+    let mut those = built.those(|what| what == What::Descriptor);
+    if those.is_empty() || (!at_end && rng.one_in(2)) {
+        those = movable(built);
+    }
+    let area = &those[rng.index(those.len())];
+    let wanted = if at_end { 2 } else { rng.below(4) };
+    let mut others = built.those(|what| what != area.what && kind(what) == wanted);
+    if others.is_empty() {
+        others = built.those(|what| what != area.what);
+    }
+    let other = &others[rng.index(others.len())];
+    let least = other.first.saturating_sub(area.sectors - 1).max(1);
+    let to = rng.within(least, (other.first + other.sectors - 1).max(least));
+    match rng.below(3) {
+        0 => copy(built, area, to),
+        1 => copy_beside(built, area, to, other),
+        _ => {}
+    }
+    for field in &area.pointers {
+        built.put(*field, to);
+    }
+}
+
+/// Areas of which an image may have many, those at its end, and the others.
+fn kind(what: What) -> u64 {
+    match what {
+        What::Grain(_) => 0,
+        What::Table(_) | What::Copy(_) => 1,
+        What::Footer | What::Last => 2,
+        _ => 3,
+    }
+}
+
+/// Copies those of an area's sectors to another place that do not come to stand in `other`.
+fn copy_beside(built: &mut Built, area: &Area, to: u64, other: &Area) {
+    for (from, to) in (area.first..area.first + area.sectors).zip(to..) {
+        let sector = Area {
+            first: from,
+            sectors: 1,
+            ..area.clone()
+        };
+        if !(other.first..other.first + other.sectors).contains(&to) {
+            copy(built, &sector, to);
+        }
+    }
 }
 
 /// Copies an area's bytes to another place, if they fit there.

@@ -9,7 +9,7 @@ mod shape;
 
 pub use anywhere::anywhere;
 pub use build::build;
-pub use damage::{damage, suited};
+pub use damage::{damage, meet, suited};
 pub use shape::{size, Plan, Shape};
 #[cfg(test)]
 pub use {parts::unused, shape::Cell};

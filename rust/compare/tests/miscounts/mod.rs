@@ -1,6 +1,7 @@
-//! Surveys that count grains wrongly: what a mistake leaves out of an image's row, in the row's order.
+//! Surveys with mistakes in their lists or numbers, among them what is left out of an image's row, in the row's order.
 
 use crate::ones::one_is_zero;
+use crate::wrapped;
 use crate::Mistake::{self, *};
 use compare::side::{Plain, Side};
 use plain::{Surveyed, ABSENT, PACKED, STORED};
@@ -9,8 +10,37 @@ use plain::{Surveyed, ABSENT, PACKED, STORED};
 pub type Counts = [u64; 4];
 
 impl Mistake {
+    pub fn survey_wrongly(
+        self,
+        images: &[u8],
+        lengths: &[u64],
+        rows: &mut [u64],
+        tally: &mut [u64],
+    ) -> Surveyed {
+        let before = tally.to_vec();
+        let mut surveyed = Plain.survey(images, lengths, rows, tally);
+        match (self, surveyed.number) {
+            (NumberAtItsOwnWord, 0) => tally[..63].rotate_right(1),
+            (TallyAddedTo, 0) => {
+                for (word, held) in tally[..63].iter_mut().zip(before) {
+                    *word = word.wrapping_add(held);
+                }
+            }
+            (WordPastTheRows, 0) => rows[6 * lengths.len()..].fill(0),
+            (ListsBefore21, 21) => {
+                rows.fill(0);
+                tally.fill(0);
+            }
+            (OneImageTooMany, 24) if lengths.len() == 1025 => surveyed.number = 21,
+            (SumThatWraps, 24) if wrapped(lengths) == images.len() as u64 => surveyed.number = 21,
+            (_, 0) => self.miscount(images, lengths, rows, &mut surveyed),
+            _ => {}
+        }
+        surveyed
+    }
+
     /// Grains left out of accepted images' rows and the totals, or a refused image's in the totals.
-    pub fn miscount(self, images: &[u8], lengths: &[u64], rows: &mut [u64], totals: &mut Surveyed) {
+    fn miscount(self, images: &[u8], lengths: &[u64], rows: &mut [u64], totals: &mut Surveyed) {
         let parts = parts(images, lengths);
         for (image, row) in parts.into_iter().zip(rows.chunks_mut(6)) {
             let lost = match (self, row[4]) {

@@ -1,7 +1,7 @@
 //! The lines that the program prints for a case: a call and the numbers of its answer.
 
-use super::{Case, CHAIN, COLLAPSE, FIND, FRAME, IMAGE, SEARCHED, SPLIT, SURVEY, TEXT};
-use super::{MOST_ROWS, MOST_WORDS, SHORT, SHORT_TALLY, TALLY};
+use super::{Case, CHAIN, CHECK_IN, COLLAPSE, FIND, FRAME, IMAGE, SPLIT, SURVEY, TEXT};
+use super::{MOST_ROWS, MOST_WORDS, SEARCHED, SHORT, SHORT_TALLY, TALLY};
 use crate::input::Input;
 use crate::numbers::{described, digest, extent, found, handed_over, line, located};
 use plain::{Extent, Refusal};
@@ -14,6 +14,7 @@ impl Case {
             TEXT => self.text_lines(),
             FRAME => vec![self.frame_line()],
             SURVEY => self.survey_lines(),
+            CHECK_IN => vec![self.check_in_line()],
             _ => Vec::new(),
         };
         for sector in &self.sectors {
@@ -84,12 +85,25 @@ impl Case {
         line(call, &[w.number, w.place, w.length, digest(&out)])
     }
 
-    /// The frame's answer, and the whole list, whose words were 170 before.
+    /// The list of a call that takes one: each word is 170.
+    fn list(&self) -> Vec<u64> {
+        vec![170; MOST_WORDS.min(self.room as usize)]
+    }
+
+    /// The frame's answer, and the whole list.
     fn frame_line(&self) -> String {
-        let mut list = vec![170; MOST_WORDS.min(self.room as usize)];
+        let mut list = self.list();
         let f = plain::frame(&self.bytes, &mut list);
         let answer = line("frame ", &[f.number, f.place, f.count]);
         line(&answer, &list)
+    }
+
+    /// The answer of the check in a list, and the whole list.
+    fn check_in_line(&self) -> String {
+        let mut list = self.list();
+        let m = plain::check_in(&self.bytes, &mut list);
+        let answer = [m.number, m.place, m.capacity, m.grain_size, m.marked];
+        line(&line("check_in ", &answer), &list)
     }
 
     /// The survey's answer and the whole list of rows, then the whole tally; all words were 170 before.

@@ -1,8 +1,9 @@
 //! Which cases are stored: real images from samples, and generated ones that reach each answer of each call.
 
 use super::record::Recorder;
-use super::{Case, FIND, FRAME, IMAGE, SPLIT, SURVEY, TEXT};
+use super::{Case, CHECK_IN, FIND, FRAME, IMAGE, SPLIT, SURVEY, TEXT};
 use compare::cases::case;
+use compare::marks::that_meets;
 use compare::rng::Rng;
 use compare::run::Run;
 use compare::side::Plain;
@@ -82,7 +83,7 @@ fn wanted(case: &Case, answer: &str) -> u64 {
     let refused = !answer.contains(" 0 ");
     match (is_short(case), refused) {
         (true, _) => 15,
-        (false, _) if [SURVEY, SPLIT].contains(&case.asked) => 1,
+        (false, _) if [SURVEY, SPLIT, CHECK_IN].contains(&case.asked) => 1,
         (false, true) => 2,
         // By all its groups, by its dirty number, or at sector 1, one is enough.
         (false, false) if case.asked == FRAME || answer.ends_with("at 1") => 1,
@@ -139,6 +140,7 @@ fn kind(case: &Case, line: &str) -> String {
             let (first, flag) = (case.bytes[4] == 1, case.bytes[8] & 0x4);
             format!("{call} {number} {first} {flag}")
         }
+        "check_in" => format!("{call} {cowd} {}", marked(case, &words)),
         // By the dirty number, told or not, and whether it is more than a byte.
         "header" if number == "0" => {
             let dirty: u64 = words[7].parse().unwrap_or(0);
@@ -175,5 +177,22 @@ fn kind(case: &Case, line: &str) -> String {
         }
         "normal" | "collapse" | "descriptor" | "find" => format!("{call} {number}"),
         _ => format!("{call} {number} {cowd}"),
+    }
+}
+
+/// What kind of answer of the check in a list it is: by footer, redundant directory and room, by the area that meets, by what
+/// else would be answered, or by whether there was a list at all.
+fn marked(case: &Case, words: &[&str]) -> String {
+    let image = &case.bytes;
+    let number = words[1];
+    match number {
+        "0" => {
+            let (footer, redundant) = (image[56..64] == [255; 8], image[48..56] != [0; 8]);
+            let rest = words.contains(&HELD);
+            format!("{number} {footer} {redundant} {rest}")
+        }
+        "12" => that_meets(image, words[5].parse().unwrap_or(0)).to_string(),
+        "21" => format!("{number} {}", plain::check(image).number),
+        _ => format!("{number} {}", case.room > 0),
     }
 }

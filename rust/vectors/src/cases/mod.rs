@@ -30,6 +30,8 @@ const FRAME: u64 = 6;
 const SURVEY: u64 = 7;
 /// The lookup of each sector in a disk of several files: the first length is that of the text, which the files follow.
 const SPLIT: u64 = 8;
+/// The check in a list of as many words as the room says, `MOST_WORDS` at most.
+const CHECK_IN: u64 = 9;
 
 const SEARCHED: usize = 32;
 const MOST_WORDS: usize = 96;

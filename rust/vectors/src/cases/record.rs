@@ -1,11 +1,14 @@
 //! The generators of `compare`, listened to: a side that keeps what it is asked and answers as the plain one does.
 
 use super::{
-    Case, CHAIN, COLLAPSE, FIND, FRAME, IMAGE, SEARCHED, SHORT, SHORT_TALLY, SPLIT, SURVEY, TEXT,
+    Case, CHAIN, CHECK_IN, COLLAPSE, FIND, FRAME, IMAGE, SEARCHED, SHORT, SHORT_TALLY, SPLIT,
+    SURVEY, TEXT,
 };
 use crate::numbers::extent;
 use compare::side::{Plain, Side};
-use plain::{Described, Extent, Found, Framed, Head, Located, Part, Surveyed, Verdict, Written};
+use plain::{
+    Described, Extent, Found, Framed, Head, Located, Marked, Part, Surveyed, Verdict, Written,
+};
 use std::cell::RefCell;
 
 #[derive(Default)]
@@ -35,6 +38,16 @@ impl Recorder {
         }
     }
 
+    /// A call that writes over a list or an output of this room.
+    fn lent(&self, asked: u64, image: &[u8], room: usize) {
+        self.keep(Case {
+            asked,
+            bytes: image.to_vec(),
+            room: room as u64,
+            ..Case::default()
+        });
+    }
+
     fn image(&self, image: &[u8], sectors: &[u64]) {
         self.keep(Case {
             asked: IMAGE,
@@ -55,6 +68,10 @@ impl Side for Recorder {
     fn check(&self, image: &[u8]) -> Verdict {
         self.image(image, &[]);
         Plain.check(image)
+    }
+    fn check_in(&self, image: &[u8], list: &mut [u64]) -> Marked {
+        self.lent(CHECK_IN, image, list.len());
+        Plain.check_in(image, list)
     }
     fn header(&self, image: &[u8]) -> Head {
         self.image(image, &[]);
@@ -79,12 +96,7 @@ impl Side for Recorder {
         Plain.read(image, sector)
     }
     fn frame(&self, image: &[u8], list: &mut [u64]) -> Framed {
-        self.keep(Case {
-            asked: FRAME,
-            bytes: image.to_vec(),
-            room: list.len() as u64,
-            ..Case::default()
-        });
+        self.lent(FRAME, image, list.len());
         Plain.frame(image, list)
     }
     fn survey(
@@ -105,12 +117,7 @@ impl Side for Recorder {
         Plain.survey(images, lengths, rows, tally)
     }
     fn normal(&self, image: &[u8], out: &mut [u8]) -> Written {
-        self.keep(Case {
-            asked: IMAGE,
-            bytes: image.to_vec(),
-            room: out.len() as u64,
-            ..Case::default()
-        });
+        self.lent(IMAGE, image, out.len());
         Plain.normal(image, out)
     }
     fn collapse(&self, lower: &[u8], upper: &[u8], out: &mut [u8]) -> Written {
