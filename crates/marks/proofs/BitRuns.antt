@@ -1,5 +1,5 @@
 -- A run by its parts, and what a test of it tells.
-use Prim.Native.Nat.{ℕ, _+_, _*_, _/_, _≤_, _<_}
+use Prim.Native.Nat.{ℕ, _+_, _*_, _-_, _/_, _≤_, _<_, min, max}
 use mathlib.Core.Path.{_≡_, refl, _∙_}
 use mathlib.Core.Bool.{Bool, true, false, _&&_, true≢false, false≢true}
 use mathlib.Core.Logic.{⊎-elim}
@@ -44,23 +44,55 @@ tested-join {ws} {p = true} low high t u =
     }
 tested-join {ws} {p = false} low high t u = tested-taken ws _ _ (taken-widen ws (omega arith) high (t .taken refl))
 
--- ---- an edge, whole words, an edge: as the code cuts a run
-module _ (from end : ℕ) (some : (from + 63) / 64 < end / 64) where
-  abbrev first-end : ℕ
-  first-end = (from + 63) / 64 * 64
+-- ---- as the code cuts a run: the part in its first word, whole words, the part in its last word
+module _ (from end : ℕ) (some : from < end) where
+  abbrev first : ℕ
+  first = from / 64
 
-  abbrev last-from : ℕ
-  last-from = end / 64 * 64
+  abbrev last : ℕ
+  last = (end - 1) / 64
 
-  pub put-three : (ws xs ys zs : List ℕ) → Put ws xs from first-end → Put xs ys first-end last-from → Put ys zs last-from end
-      → Put ws zs from end
-  put-three ws xs ys zs p q r = put-join (omega arith) (omega arith) p (put-join (omega arith) (omega arith) q r)
+  -- the part of the run in word j
+  abbrev low : ℕ → ℕ
+  low j = max from (j * 64)
 
-  pub tested-three : (ws : List ℕ) (p q r : Bool) → Tested ws from first-end p → Tested ws first-end last-from q
-      → Tested ws last-from end r → Tested ws from end ((p && q) && r)
-  tested-three ws p q r t u v = tested-join (omega arith) (omega arith) (tested-join (omega arith) (omega arith) t u) v
+  abbrev high : ℕ → ℕ
+  high j = min end ((j + 1) * 64)
+
+  first-low : low first ≡ from
+  first-low = omega arith
+
+  -- all in one word
+  module _ (one : last ≤ first) where
+    one-high : high first ≡ end
+    one-high = omega arith
+
+    pub put-one : (ws xs : List ℕ) → Put ws xs (low first) (high first) → Put ws xs from end
+    put-one ws xs p = rw (first-low, one-high) at p
+
+    pub tested-one : (ws : List ℕ) (r : Bool) → Tested ws (low first) (high first) r → Tested ws from end r
+    tested-one ws r t = rw (first-low, one-high) at t
+
+  -- in two, or more
+  module _ (more : first < last) where
+    pub put-three : (ws xs ys zs : List ℕ) → Put ws xs from ((first + 1) * 64) → Put xs ys ((first + 1) * 64) (last * 64)
+        → Put ys zs (last * 64) end → Put ws zs from end
+    put-three ws xs ys zs p q r = put-join (omega arith) (omega arith) p (put-join (omega arith) (omega arith) q r)
+
+    pub tested-three : (ws : List ℕ) (p q r : Bool) → Tested ws from ((first + 1) * 64) p
+        → Tested ws ((first + 1) * 64) (last * 64) q → Tested ws (last * 64) end r → Tested ws from end ((p && q) && r)
+    tested-three ws p q r t u v = tested-join (omega arith) (omega arith) (tested-join (omega arith) (omega arith) t u) v
 
 -- ---- what is done by a test
+pub marking-none : (ws : List ℕ) (from count : ℕ) → count ≡ 0 → Marking ws ws from (from + count) true
+marking-none ws from count z =
+    record {
+      was-free = λ e s l u. absurd (omega arith);
+      now-put = λ e. put-none ws from (from + count) (omega arith);
+      was-taken = λ e. absurd (true≢false e);
+      unchanged = λ e. absurd (true≢false e);
+    }
+
 module _ (ws : List ℕ) (from end : ℕ) (r : Bool) (t : Tested ws from end r) where
   pub marking-done : (xs : List ℕ) → r ≡ true → Put ws xs from end → Marking ws xs from end true
   marking-done xs y p =

@@ -2,5 +2,5 @@ pub mod Bits
 pub mod Masks
 pub mod BitWords
 pub mod BitRuns
-pub mod Edges
+pub mod WordParts
 pub mod Wholes

@@ -1,9 +1,9 @@
 -- Masks of a run: as `below` and `mask` make them.
-use Prim.Native.Nat.{ℕ, _*_, _-_, _%_, _^_, _≤_, _<_}
-use mathlib.Core.Path.{_≡_, _∙_}
+use Prim.Native.Nat.{ℕ, _+_, _*_, _-_, _/_, _%_, _^_, _≤_, _<_}
+use mathlib.Core.Path.{_≡_, ap, subst, _∙_}
 use native.Mathlib.Omega.{arith}
 use native.Mathlib.Nat.{one-mul}
-use lib.Pow.{pow-pos, shl-exact}
+use lib.Pow.{pow-pos, shl-exact, ones-split, ones-lt, high}
 use lib.Dec.{lit<}
 use lib.Bits.{bitXor}
 use Rattle.marks.specs.Marks.{Mask}
@@ -41,4 +41,39 @@ mask-between base from end x y o e f =
       inside = λ k h l u. omega (arith, bit-xor y x k, e .inside k h (omega arith) u, f .over k h l);
       under = λ k h l. omega (arith, bit-xor y x k, e .inside k h (omega arith) (omega arith), f .inside k h (omega arith) l);
       over = λ k h l. omega (arith, bit-xor y x k, e .over k h l, f .over k h (omega arith));
+    }
+
+-- ---- the sectors of a word from one on, and up to one
+mask-under : (base b : ℕ) → b < 64 → Mask base 0 (base + b) ((1 * 2 ^ b) % 2 ^ 64 - 1)
+mask-under base b small =
+    rw (one-shifted b small)
+    record {
+      inside = λ k h l u. ones-set b k (omega arith);
+      under = λ k h l. omega arith;
+      over = λ k h l. ones-clear b k (omega arith);
+    }
+
+pub mask-low : (from : ℕ)
+    → Mask (from / 64 * 64) from ((from / 64 + 1) * 64) (bitXor (2 ^ 64 - 1) ((1 * 2 ^ (from % 64)) % 2 ^ 64 - 1))
+mask-low from =
+    let base = from / 64 * 64 in
+    let at : base + from % 64 ≡ from = omega arith in
+    let below : Mask base 0 from ((1 * 2 ^ (from % 64)) % 2 ^ 64 - 1) = rw at at (mask-under base (from % 64) (omega arith)) in
+    mask-between base from ((from / 64 + 1) * 64) ((1 * 2 ^ (from % 64)) % 2 ^ 64 - 1) (2 ^ 64 - 1) (omega arith)
+    (mask-all base ((from / 64 + 1) * 64) (omega arith)) below
+
+ones-shifted : (b k n : ℕ) → b + 1 + k ≡ n → (2 ^ n - 1) / 2 ^ k ≡ 2 ^ (b + 1) - 1
+ones-shifted b k n e =
+    subst (λ (m : ℕ). (2 ^ m - 1) / 2 ^ k ≡ 2 ^ (b + 1) - 1) e
+    (ap (λ (x : ℕ). x / 2 ^ k) (ones-split (b + 1) k) ∙ high (2 ^ (b + 1) - 1) k (ones-lt k))
+
+pub mask-high : (end : ℕ) → 1 ≤ end
+    → Mask ((end - 1) / 64 * 64) ((end - 1) / 64 * 64) end ((2 ^ 64 - 1) / 2 ^ (63 - (end - 1) % 64))
+mask-high end h =
+    let b = (end - 1) % 64 in
+    rw (ones-shifted b (63 - b) 64 (omega arith))
+    record {
+      inside = λ k s l u. ones-set (b + 1) k (omega arith);
+      under = λ k s l. absurd (omega arith);
+      over = λ k s l. ones-clear (b + 1) k (omega arith);
     }

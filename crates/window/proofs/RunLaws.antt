@@ -50,13 +50,21 @@ module _ (lo first count from end : ℕ) (ws : List ℕ) (f : from ≡ clip lo w
       let span : from + (end - from) ≡ clip lo ws (first + count) = omega arith in
       run-one xs m (rw (span, f) at k)
 
--- ---- an area before the window, or after it
+-- ---- an area before the window, after it, or in it whole
 module _ (lo first count : ℕ) (ws : List ℕ) where
   pub run-before : first + count ≤ lo → Run lo ws (area first count ∷ []) ws false
   run-before h = run-outside lo first count _ _ ws refl refl (omega arith)
 
   pub run-after : 64 * length ws ≤ first - lo → Run lo ws (area first count ∷ []) ws false
   run-after h = run-outside lo first count _ _ ws refl refl (omega arith)
+
+  pub run-whole : (xs : List ℕ) (m : Bool) → lo < first → first - lo < 64 * length ws
+      → count ≤ 64 * length ws - (first - lo) → Marking ws xs (first - lo) (first - lo + count) m
+      → Run lo ws (area first count ∷ []) xs (not m)
+  run-whole xs m l b h k =
+      let from : first - lo ≡ clip lo ws first = omega arith in
+      let end : first - lo + count ≡ clip lo ws (first + count) = omega arith in
+      run-one lo first count (first - lo) (first - lo + count) ws from end xs m (rw (end, from) at k)
 
 -- ---- an area that an image may have
 pub there-ends : (there : Bool) (first count : ℕ) → (there ≡ true → first + count < 2 ^ 64) → there ≡ true → first + count

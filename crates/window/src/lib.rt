@@ -31,7 +31,8 @@ fn mark_part(words: &mut [u64], lo: u64, first: u64, count: u64) -> bool
 }
 
 // Marks the part of an area that lies in the window. True if a sector of it was marked before; then nothing is changed.
-// Most areas of a large file have no part in a window: they cost two comparisons in the caller's loop.
+// Most areas of a large file have no part in a window: they cost two comparisons in the caller's loop. Most others lie in it
+// whole, and nothing is cut off them.
 pub fn mark_area(words: &mut [u64], lo: u64, first: u64, count: u64) -> bool
     requires { ⌜ Counted (now words) × (first + count < 2 ^ 64) ⌝ }
     ensures { λ r. ⌜ Run lo (now (words .entry)) (area first count ∷ []) (now (words .exit)) r ⌝ }
@@ -45,6 +46,9 @@ pub fn mark_area(words: &mut [u64], lo: u64, first: u64, count: u64) -> bool
     let width = (64 * words.len()) as u64;
     if width <= first - lo {
         return false;
+    }
+    if count <= width - (first - lo) {
+        return !marks::mark(&mut *words, (first - lo) as usize, count as usize);
     }
     mark_part(&mut *words, lo, first, count)
 }

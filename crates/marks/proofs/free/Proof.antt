@@ -1,6 +1,6 @@
--- `free`: three runs, each where the last one ends.
+-- `free`: parts of the run, each where the last one ends.
+use Rattle.marks.proofs.BitRuns.{tested-one, tested-three}
 use borrow.Author.Needs.{needs}
-use Rattle.marks.proofs.BitRuns.{tested-three}
 use Rattle.marks.proofs.free.Statement.{statement}
 use Rattle.marks.proofs.free.Tie as tie
 
@@ -8,12 +8,11 @@ pub free-spec : {M : Type 1} → statement M
 free-spec =
     tie.close
     (tie.spec
-    (λ add-first. search needs)
-    (λ free-edge-requires κs. search needs)
-    (λ returns. search needs)
-    (λ mul-free-edge. search needs)
-    (λ free-edge-requires-2 κs. search needs)
+    (λ sub-last. search needs)
+    (λ free-word-requires κs. search needs)
+    (λ returns. search (tested-one, needs))
+    (λ free-first-requires κs. search needs)
+    (λ add-free-whole. search needs)
     (λ free-whole-requires κs. search needs)
-    (λ mul-free-edge-2. search needs)
-    (λ free-edge-requires-3 κs. search needs)
+    (λ free-last-requires κs. search needs)
     (λ returns-2. search (tested-three, needs)))

@@ -1,6 +1,5 @@
--- `mark`: the run is tested, and marked only where it was free.
+use Rattle.marks.proofs.Wholes.{two-run}
 use borrow.Author.Needs.{needs}
-use Rattle.marks.proofs.BitRuns.{marking-done, marking-refused}
 use Rattle.marks.proofs.mark.Statement.{statement}
 use Rattle.marks.proofs.mark.Tie as tie
 
@@ -8,10 +7,12 @@ pub mark-spec : {M : Type 1} → statement M
 mark-spec =
     tie.close
     (tie.spec
-    (λ add-end. search needs)
-    (λ free-requires κs. search needs)
-    (λ put-requires κs. search needs)
+    (λ mark-run-requires κs. search needs)
     (λ same-length. search needs)
-    (λ returns. search (marking-done, needs))
+    (λ returns. search needs)
+    (λ mark-run-requires-2 κs. search needs)
     (λ same-length-2. search needs)
-    (λ returns-2. search (marking-refused, needs)))
+    (λ returns-2. search needs)
+    (λ mark-two-requires κs. search needs)
+    (λ same-length-3. search needs)
+    (λ returns-3. search (two-run, needs)))

@@ -1,4 +1,4 @@
-use Rattle.window.proofs.RunLaws.{run-before, run-after}
+use Rattle.window.proofs.RunLaws.{run-before, run-after, run-whole}
 use borrow.Author.Needs.{needs}
 use Rattle.window.proofs.mark_area.Statement.{statement}
 use Rattle.window.proofs.mark_area.Tie as tie
@@ -15,6 +15,12 @@ mark-area-spec =
     (λ mul-width. search needs)
     (λ sub-if3. search needs)
     (λ returns-3. search run-after)
-    (λ mark-part-requires-2 κs. search needs)
+    (λ sub-if4. search needs)
+    (λ sub-if4-2. search needs)
+    (λ sub-mark. search needs)
+    (λ mark-requires κs. search needs)
     (λ same-length-2. search needs)
-    (λ returns-4. search needs))
+    (λ returns-4. search (run-whole, needs))
+    (λ mark-part-requires-2 κs. search needs)
+    (λ same-length-3. search needs)
+    (λ returns-5. search needs))
