@@ -2,8 +2,25 @@
 //!
 //! It knows no packed grains, no redundant directory, no footer and no COWD, and gives no refusal numbers.
 
-/// Capacity and grain size of an image in which every area lies below the file's end and no sector lies in two.
+/// Capacity and grain size of an image in which every area lies below the file's end and no sector lies in two. Each call has a
+/// new bitmap.
 pub fn check(image: &[u8]) -> Option<(u64, u64)> {
+    marked(image, &mut vec![0; words(image)])
+}
+
+/// The same in a bitmap that is lent, and cleared first.
+pub fn check_in(image: &[u8], words: &mut [u64]) -> Option<(u64, u64)> {
+    words.fill(0);
+    marked(image, words)
+}
+
+/// The words of a bitmap, for every 64 sectors one.
+pub fn words(image: &[u8]) -> usize {
+    (image.len() / 512 + 63) / 64
+}
+
+/// In words that are 0.
+fn marked(image: &[u8], words: &mut [u64]) -> Option<(u64, u64)> {
     let header = image.get(..512)?;
     let capacity = number64(header, 12);
     let grain_size = number64(header, 20);
@@ -24,7 +41,8 @@ pub fn check(image: &[u8]) -> Option<(u64, u64)> {
     let grains = (capacity + grain_size - 1) / grain_size;
     let tables = (grains + 511) / 512;
 
-    let mut marks = Marks::new(image.len() as u64 / 512);
+    let sectors = image.len() as u64 / 512;
+    let mut marks = Marks { words, sectors };
     marks.mark(0, 1)?;
     marks.mark(number64(header, 28), number64(header, 36))?;
     let directory = number64(header, 56);
@@ -62,19 +80,12 @@ fn number64(bytes: &[u8], at: usize) -> u64 {
     number32(bytes, at) | number32(bytes, at + 4) << 32
 }
 
-struct Marks {
-    words: Vec<u64>,
+struct Marks<'a> {
+    words: &'a mut [u64],
     sectors: u64,
 }
 
-impl Marks {
-    fn new(sectors: u64) -> Marks {
-        Marks {
-            words: vec![0; sectors as usize / 64 + 1],
-            sectors,
-        }
-    }
-
+impl Marks<'_> {
     /// Marks a run of sectors; nothing where it is empty, runs past the end or meets a mark. Nothing here wraps: the sums say
     /// so because the workspace tests sums in release builds too, and this rival is to run as others build theirs.
     fn mark(&mut self, first: u64, count: u64) -> Option<()> {
@@ -108,7 +119,7 @@ fn set(word: &mut u64, bits: u64) -> Option<()> {
 
 #[cfg(test)]
 mod tests {
-    use super::check;
+    use super::{check, check_in, words};
     use crate::image::{Image, GRAIN};
     use compare::rng::Rng;
 
@@ -121,6 +132,7 @@ mod tests {
 
         let mut rng = Rng::new(3, 1);
         let mut refused = 0;
+        let mut lent = vec![u64::MAX; words(&sound)];
         for _ in 0..300 {
             let mut bytes = sound.clone();
             let sectors = bytes.len() as u64 / 512;
@@ -129,6 +141,7 @@ mod tests {
             bytes[at..at + 4].copy_from_slice(&entry.to_le_bytes());
             let verdict = plain::check(&bytes);
             assert_eq!(check(&bytes).is_some(), verdict.number == 0, "{verdict:?}");
+            assert_eq!(check_in(&bytes, &mut lent), check(&bytes));
             refused += u64::from(verdict.number != 0);
         }
         assert!((1..300).contains(&refused), "{refused}");

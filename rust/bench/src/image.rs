@@ -97,6 +97,12 @@ impl Image {
         }
     }
 
+    /// The same disk, of which every grain is stored, with its grains in another order.
+    pub fn shuffled(mut self, rng: &mut Rng) -> Image {
+        rng.shuffle(&mut self.entries[..self.stored as usize]);
+        self
+    }
+
     /// Writes a number over the entry of the last grain, in the primary tables or in their copies.
     pub fn spoil(&self, file: &File, copies: bool, grains: u64, number: u32) -> io::Result<()> {
         let first = self.front.len() + usize::from(copies) * self.entries.len() * 4;

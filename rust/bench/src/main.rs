@@ -15,6 +15,7 @@ mod image;
 mod lookup;
 mod machine;
 mod map;
+mod marks;
 mod qemu;
 mod report;
 mod side;
@@ -31,8 +32,9 @@ use std::process::exit;
 
 /// Inputs depend on it alone.
 const SEED: u64 = 7;
-const CALLS: [&str; 7] = [
+const CALLS: [&str; 8] = [
     "check",
+    "marks",
     "copies",
     "survey",
     "lookup",
@@ -128,6 +130,9 @@ fn run(quick: bool, calls: &[String]) -> Result<Report, Box<dyn Error>> {
     if wanted("check") {
         check::measure(&setup, &inputs, &mut report)?;
     }
+    if wanted("marks") {
+        marks::measure(&setup, &mut report)?;
+    }
     if wanted("copies") {
         copies::measure(&setup, &mut report)?;
     }
@@ -163,6 +168,7 @@ fn a_quick_run_has_rows_for_every_call() -> Outcome {
     let table = run(true, &CALLS.map(String::from))?.to_string();
     for call in [
         "check",
+        "check in a lent list",
         "check, two directories",
         "survey",
         "lookup",

@@ -3,7 +3,7 @@
 #[cfg(feature = "proved")]
 mod proved {
     use anhkhovet::raw;
-    use plain::{Described, Extent, Located, Surveyed, Verdict, Written};
+    use plain::{Described, Extent, Located, Marked, Surveyed, Verdict, Written};
 
     /// A struct of the one side from the other's, field by field.
     macro_rules! same {
@@ -15,6 +15,10 @@ mod proved {
 
     pub fn check(image: &[u8]) -> Verdict {
         same!(raw::check(image) => Verdict { number, place, capacity, grain_size })
+    }
+
+    pub fn check_in(image: &[u8], list: &mut [u64]) -> Marked {
+        same!(raw::check_in(image, list) => Marked { number, place, capacity, grain_size, marked })
     }
 
     pub fn survey(images: &[u8], lengths: &[u64], rows: &mut [u64], tally: &mut [u64]) -> Surveyed {
@@ -45,7 +49,7 @@ mod proved {
 }
 
 #[cfg(feature = "proved")]
-pub use proved::{chain, check, collapse, describe, lookup, survey};
+pub use proved::{chain, check, check_in, collapse, describe, lookup, survey};
 
 #[cfg(not(feature = "proved"))]
 mod stand_in {
@@ -62,6 +66,6 @@ mod stand_in {
 
 #[cfg(not(feature = "proved"))]
 pub use {
-    plain::{chain, check, lookup, survey},
+    plain::{chain, check, check_in, lookup, survey},
     stand_in::{collapse, describe},
 };

@@ -1,5 +1,6 @@
 //! `check`: each image and each disk of several files by itself. Its answer is a line for each file, whatever is wrong with it.
 
+use crate::checked::checked;
 use crate::described::Opened;
 use crate::failure::{Failure, Status};
 use crate::judged::Judged;
@@ -21,7 +22,7 @@ fn one(path: &Path) -> Verdict {
     let judged = Opened::at(path).and_then(|opened| {
         let _progress = Progress::start(&format!("checking {}", name(path)), 0);
         match opened {
-            Opened::Image(file) => Ok(Verdict::Image(Judged::of(file, anhkhovet::check))),
+            Opened::Image(file) => Ok(Verdict::Image(Judged::of(file, checked))),
             Opened::Descriptor(disk) => Verdicts::of(disk).map(Verdict::Split),
         }
     });

@@ -5,6 +5,7 @@
 mod batch;
 mod beside;
 mod check;
+mod checked;
 mod cli;
 mod commands;
 mod cores;

@@ -1,5 +1,6 @@
-//! One extent of a disk of several files, with its file: judged by the library's `split`, and then asked file by file.
+//! One extent of a disk of several files, with its file: judged as the library's `split` does, and then asked file by file.
 
+use crate::checked::checked;
 use crate::described::Described;
 use crate::failure::{Failure, Refusal};
 use crate::files::{same, Files, Layers};
@@ -26,6 +27,27 @@ enum Judged {
     /// Plain sectors, from this file sector on.
     Plain(u64),
     Zeros,
+}
+
+/// As many bytes has a magic.
+const MAGIC: usize = 4;
+
+/// The refusal of a file that is not of its extent's type.
+const OTHER_TYPE: u64 = 45;
+
+/// What the library's `split` says of a sector of an extent whose file has these bytes. Of the other files nothing decides, so
+/// none of their bytes are lent: a law of the library has it (`own-file-alone` in crate `laws`).
+fn split(
+    disk: &Described,
+    extent: usize,
+    bytes: &[u8],
+    sector: u64,
+) -> Result<Source, anhkhovet::Refusal> {
+    let mut lengths = vec![0; disk.extents.len()];
+    lengths[extent] = bytes.len() as u64;
+    anhkhovet::split(&disk.text.bytes, bytes, &lengths, sector)
+        .map(|placed| placed.source)
+        .map_err(|refused| refused.refusal)
 }
 
 impl Member {
@@ -69,43 +91,55 @@ impl Member {
         still_open(self.file.as_ref()?.bytes(0))
     }
 
-    /// What the library's `split` says of a sector of this extent. Of the other files nothing decides, so none of their bytes
-    /// are lent: a law of the library has it (`own-file-alone` in crate `laws`).
-    fn split(&mut self, disk: &Described, sector: u64) -> Result<Source, Failure> {
-        let mut lengths = vec![0; disk.extents.len()];
-        let ask = |lengths: &[u64], bytes: &[u8]| {
-            anhkhovet::split(&disk.text.bytes, bytes, lengths, sector)
-                .map(|placed| placed.source)
-                .map_err(|refused| refused.refusal)
-        };
-        let answer = match &mut self.file {
-            None => ask(&lengths, &[]),
-            Some(file) => {
-                lengths[self.number] = file.bytes(0).len() as u64;
-                file.ask(0, |bytes| ask(&lengths, bytes))?
-            }
-        };
+    /// An answer on this extent, if the files that it is of are unchanged.
+    fn told<T>(
+        &self,
+        disk: &Described,
+        answer: Result<T, anhkhovet::Refusal>,
+    ) -> Result<T, Failure> {
         disk.file.same()?;
         same(&self.files())?;
         let path = self.file.as_ref().map(|file| file.path(0));
         answer.map_err(|why| Failure::Refused(Refusal::new(why, path)))
     }
 
-    /// Judges the extent wholly: what its first sector is not refused for, none of its sectors is.
+    /// What the library's `split` says of a sector of this extent.
+    fn split(&mut self, disk: &Described, sector: u64) -> Result<Source, Failure> {
+        let number = self.number;
+        let answer = match &mut self.file {
+            None => split(disk, number, &[], sector),
+            Some(file) => file.ask(0, |bytes| split(disk, number, bytes, sector))?,
+        };
+        self.told(disk, answer)
+    }
+
+    /// The grain size of an image that is accepted and has its line's capacity. The order is that of `split`: 45 for an image
+    /// of the other type, the check's numbers, 38 for another capacity. `split` itself tells 45 and 38.
+    fn image(&mut self, disk: &Described) -> Result<Option<u64>, Failure> {
+        let file = match (&mut self.file, self.kind) {
+            (Some(file), ExtentKind::Sparse | ExtentKind::VmfsSparse) => file,
+            _ => return Ok(None),
+        };
+        // The magic alone decides on 45.
+        let magic = &file.bytes(0)[..MAGIC.min(file.bytes(0).len())];
+        let asked = split(disk, self.number, magic, self.first);
+        if matches!(asked, Err(why) if why.number == OTHER_TYPE) {
+            return Ok(None);
+        }
+        let answer = file.ask(0, checked)?;
+        let image = self.told(disk, answer)?;
+        Ok(Some(image.grain_size).filter(|_| image.capacity == self.sectors))
+    }
+
+    /// Judges the extent wholly: what its first sector is not refused for, none of its sectors is. An accepted image refuses
+    /// none below its capacity, so that its first one need not be looked up.
     pub fn judge(&mut self, disk: &Described) -> Result<(), Failure> {
-        let source = self.split(disk, self.first)?;
-        self.judged = Some(match (source, &self.file, self.kind) {
-            (_, Some(file), ExtentKind::Sparse | ExtentKind::VmfsSparse) => {
-                let header = anhkhovet::header(file.bytes(0));
-                Judged::Image(
-                    header
-                        .map_err(Failure::refused(file.path(0)))?
-                        .disk
-                        .grain_size,
-                )
-            }
-            (Source::Stored { sector }, ..) => Judged::Plain(sector),
-            _ => Judged::Zeros,
+        self.judged = Some(match self.image(disk)? {
+            Some(size) => Judged::Image(size),
+            None => match self.split(disk, self.first)? {
+                Source::Stored { sector } => Judged::Plain(sector),
+                _ => Judged::Zeros,
+            },
         });
         Ok(())
     }
