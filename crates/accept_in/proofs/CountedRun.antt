@@ -11,10 +11,10 @@ use lib.ListN.{length}
 use Rattle.base.specs.Pick.{pick}
 use Rattle.base.specs.Rounding.{ceil}
 use Rattle.base.specs.Bytes.{zeros}
-use Rattle.base.specs.Sums.{sumBelow}
+use Rattle.base.specs.SumsBelow.{sumBelow}
 use Rattle.base.proofs.Steps.{true-or-false, lt-or-ge}
 use Rattle.base.proofs.Over.{zeros-length}
-use Rattle.base.proofs.Sums.{sum-same}
+use Rattle.base.proofs.SumsBelow.{sum-same}
 use Rattle.format.specs.Areas.{Area, holders, sharesAny, meet, runsPast}
 use Rattle.format.specs.CheckIn.{sectorsOf, beforeMeeting, markedSectors}
 use Rattle.format.proofs.Areas.{holds-in, holds-or, any-yes, any-no, two-meet, apart-meet, past-none}

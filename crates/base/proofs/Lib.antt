@@ -6,4 +6,4 @@ pub mod Strings
 pub mod Over
 pub mod OverApart
 pub mod Rows
-pub mod Sums
+pub mod SumsBelow

@@ -4,4 +4,4 @@ pub mod Numbers
 pub mod Strings
 pub mod Bytes
 pub mod Rows
-pub mod Sums
+pub mod SumsBelow

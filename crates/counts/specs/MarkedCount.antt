@@ -3,7 +3,7 @@ use Prim.Native.Nat.{ℕ, _*_}
 use mathlib.Core.Path.{_≡_}
 use mathlib.Core.List.{List}
 use lib.ListN.{length}
-use Rattle.base.specs.Sums.{sumBelow}
+use Rattle.base.specs.SumsBelow.{sumBelow}
 use Rattle.base.specs.Bytes.{zeros}
 use Rattle.marks.specs.Marks.{marked}
 

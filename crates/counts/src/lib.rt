@@ -3,7 +3,7 @@ ghost use mathlib.Core.Path.{_≡_};
 ghost use Prim.Native.Nat.{_*_, _^_, _<_};
 ghost use lib.ListN.{length};
 ghost use Rattle.base.specs.Bytes.{zeros};
-ghost use Rattle.base.specs.Sums.{sumBelow};
+ghost use Rattle.base.specs.SumsBelow.{sumBelow};
 ghost use Rattle.marks.specs.Marks.{bit};
 ghost use Rattle.counts.specs.MarkedCount.{Emptied};
 

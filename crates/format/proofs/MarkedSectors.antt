@@ -6,9 +6,9 @@ use mathlib.Core.Logic.{⊎-elim}
 use mathlib.Core.Bool.{Bool, true, false}
 use native.Mathlib.Omega.{arith}
 use Rattle.base.specs.Pick.{pick}
-use Rattle.base.specs.Sums.{sumBelow}
+use Rattle.base.specs.SumsBelow.{sumBelow}
 use Rattle.base.proofs.Steps.{true-or-false, cond-all}
-use Rattle.base.proofs.Sums.{sum-split, sum-add, sum-none, sum-ones, sum-most}
+use Rattle.base.proofs.SumsBelow.{sum-split, sum-add, sum-none, sum-ones, sum-most}
 use Rattle.format.specs.Areas.{Area, holds, holders, sharesAny, meet, runsPast}
 use Rattle.format.specs.CheckIn.{sectorsOf, beforeMeeting, markedSectors}
 use Rattle.format.proofs.Areas.{holds-in, holds-under, holds-over, holds-or, any-yes, any-no, meet-apart}

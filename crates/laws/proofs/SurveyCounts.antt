@@ -28,7 +28,7 @@ use Rattle.format.specs.Accepted.{Accepted as Meets}
 use Rattle.laws.proofs.Counts.{count-same}
 use Rattle.laws.proofs.AcceptedImage.{accepted-sound}
 use Rattle.laws.proofs.ServedSectors.{accepted-good, served}
-use Rattle.base.specs.Sums.{sumBelow}
+use Rattle.base.specs.SumsBelow.{sumBelow}
 
 -- ---- each number below n has one of four values
 one-of-four : (v : ℕ) → v ≤ 3

@@ -29,7 +29,7 @@ use Rattle.format.specs.declared.Refusal.the-variants.{TooLittleRoom, LayersDif
 use Rattle.format.specs.declared.CheckAnswer.{CheckAnswer}
 use Rattle.format.specs.declared.CheckAnswer.the-variants.{Accepted, Refused as unaccepted}
 use Rattle.format.specs.declared.SurveyAnswer.the-variants.{Surveyed, Refused}
-use Rattle.base.specs.Sums.{sumBelow}
+use Rattle.base.specs.SumsBelow.{sumBelow}
 
 -- ---- number and place of a row are the check's
 row-told : (s : List ℕ) (a : CheckAnswer) → (rowFrom s (headerOf s) a .number ≡ verdict a .number)

@@ -2,5 +2,5 @@ pub mod Bits
 pub mod Masks
 pub mod BitWords
 pub mod BitRuns
-pub mod WordParts
+pub mod RunWords
 pub mod Wholes

@@ -5,7 +5,7 @@ use borrow.Author.Needs.{needs}
 use lib.ListN.{length}
 use Rattle.base.specs.Bytes.{over, zeros}
 use Rattle.base.proofs.Over.{zeros-none}
-use Rattle.counts.proofs.CountLaws.{cleared-more, cleared-all}
+use Rattle.counts.proofs.WordsCounted.{cleared-more, cleared-all}
 use Rattle.counts.proofs.clear.Statement.{statement}
 use Rattle.counts.proofs.clear.Tie as tie
 

@@ -5,10 +5,10 @@ use native.Mathlib.Omega.{arith}
 use borrow.Author.Needs.{needs}
 use lib.ListN.{length}
 use Rattle.base.specs.Bytes.{over, zeros}
-use Rattle.base.specs.Sums.{sumBelow}
+use Rattle.base.specs.SumsBelow.{sumBelow}
 use Rattle.base.proofs.Over.{zeros-none}
 use Rattle.marks.specs.Marks.{marked}
-use Rattle.counts.proofs.CountLaws.{sums-none, counted-more, counted-fits, cleared-more, emptied}
+use Rattle.counts.proofs.WordsCounted.{sums-none, counted-more, counted-fits, cleared-more, emptied}
 use Rattle.counts.proofs.empty.Statement.{statement}
 use Rattle.counts.proofs.empty.Tie as tie
 

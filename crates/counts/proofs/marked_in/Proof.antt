@@ -2,7 +2,7 @@
 use native.Mathlib.Nat.{lt-of-le-of-lt}
 use lib.Dec.{lit<}
 use lib.Count.{ones-le}
-use Rattle.counts.proofs.CountLaws.{bits-ones}
+use Rattle.counts.proofs.WordsCounted.{bits-ones}
 use Rattle.counts.proofs.marked_in.Statement.{statement}
 use Rattle.counts.proofs.marked_in.Tie as tie
 

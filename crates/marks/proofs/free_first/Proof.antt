@@ -1,5 +1,5 @@
 -- `free_first`: the mask tells.
-use Rattle.marks.proofs.WordParts.{first-free, first-taken}
+use Rattle.marks.proofs.RunWords.{first-free, first-taken}
 use borrow.Author.Needs.{needs}
 use Rattle.marks.proofs.free_first.Statement.{statement}
 use Rattle.marks.proofs.free_first.Tie as tie

@@ -1,5 +1,5 @@
 -- `free_last`: the mask tells.
-use Rattle.marks.proofs.WordParts.{last-free, last-taken}
+use Rattle.marks.proofs.RunWords.{last-free, last-taken}
 use borrow.Author.Needs.{needs}
 use Rattle.marks.proofs.free_last.Statement.{statement}
 use Rattle.marks.proofs.free_last.Tie as tie

@@ -1,5 +1,5 @@
 -- `free_word`: the mask tells.
-use Rattle.marks.proofs.WordParts.{word-free, word-taken}
+use Rattle.marks.proofs.RunWords.{word-free, word-taken}
 use borrow.Author.Needs.{needs}
 use Rattle.marks.proofs.free_word.Statement.{statement}
 use Rattle.marks.proofs.free_word.Tie as tie

@@ -1,5 +1,5 @@
 -- `put_first`: the mask's sectors are marked in addition.
-use Rattle.marks.proofs.WordParts.{first-put}
+use Rattle.marks.proofs.RunWords.{first-put}
 use borrow.Author.Needs.{needs}
 use Rattle.marks.proofs.put_first.Statement.{statement}
 use Rattle.marks.proofs.put_first.Tie as tie

@@ -1,5 +1,5 @@
 -- `put_last`: the mask's sectors are marked in addition.
-use Rattle.marks.proofs.WordParts.{last-put}
+use Rattle.marks.proofs.RunWords.{last-put}
 use borrow.Author.Needs.{needs}
 use Rattle.marks.proofs.put_last.Statement.{statement}
 use Rattle.marks.proofs.put_last.Tie as tie

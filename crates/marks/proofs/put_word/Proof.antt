@@ -1,5 +1,5 @@
 -- `put_word`: the mask's sectors are marked in addition.
-use Rattle.marks.proofs.WordParts.{word-put}
+use Rattle.marks.proofs.RunWords.{word-put}
 use borrow.Author.Needs.{needs}
 use Rattle.marks.proofs.put_word.Statement.{statement}
 use Rattle.marks.proofs.put_word.Tie as tie

@@ -8,10 +8,10 @@ use lib.ListN.{length, getD, set}
 use lib.Pow.{shr-shr}
 use lib.Count.{ones, ones-step}
 use Rattle.base.specs.Bytes.{over, zeros}
-use Rattle.base.specs.Sums.{sumBelow}
+use Rattle.base.specs.SumsBelow.{sumBelow}
 use Rattle.base.proofs.Over.{over-whole, fill-more, zeros-length}
 use Rattle.base.proofs.OverApart.{over-past}
-use Rattle.base.proofs.Sums.{sum-same, sum-split, sum-most}
+use Rattle.base.proofs.SumsBelow.{sum-same, sum-split, sum-most}
 use Rattle.marks.specs.Marks.{bit, marked}
 use Rattle.marks.proofs.BitWords.{sector-at}
 use Rattle.counts.specs.MarkedCount.{markedCount, Emptied}

@@ -3,7 +3,7 @@ use Prim.Native.Nat.{ℕ, zero, suc, _+_, _≤_, _<_}
 use mathlib.Core.Path.{_≡_, refl}
 use native.Mathlib.Omega.{arith}
 use native.Mathlib.Nat.{add-zero, add-suc}
-use Rattle.base.specs.Sums.{sumBelow}
+use Rattle.base.specs.SumsBelow.{sumBelow}
 
 pub sum-same : (n : ℕ) (f g : ℕ → ℕ) → ((x : ℕ) → x < n → f x ≡ g x) → sumBelow f n ≡ sumBelow g n
 unfolding sumBelow
