@@ -1,7 +1,7 @@
 // Answers in document 01's numbers, for whoever prints them or hands them on.
 ghost use mathlib.Core.Path.{_≡_};
 ghost use Rattle.format.specs.Answers.{number, place, headerNumbers, verdict, markedNumbers, served, unserved};
-ghost use Rattle.format.specs.Answers.{located, chained, written, framed, surveyed};
+ghost use Rattle.format.specs.Answers.{located, chained, written, framed, surveyed, mendedNumbers};
 use format::ChainAnswer;
 use format::CheckAnswer;
 use format::CollapseAnswer;
@@ -13,6 +13,8 @@ use format::Located;
 use format::LookupAnswer;
 use format::Marked;
 use format::MarkedAnswer;
+use format::MendAnswer;
+use format::Mended;
 use format::Refusal;
 use format::Source;
 use format::SurveyAnswer;
@@ -45,6 +47,7 @@ fn numbers_of(refusal: Refusal) -> Numbers
         Refusal::NotCollapsible => Numbers(23, 0),
         Refusal::LayerLengths => Numbers(24, 0),
         Refusal::StillOpen => Numbers(27, 0),
+        Refusal::NotMendable => Numbers(40, 0),
     }
 }
 
@@ -242,6 +245,26 @@ pub fn surveyed_of(a: SurveyAnswer) -> Surveyed
                 zero: 0,
                 absent: 0,
                 packed: 0,
+            }
+        }
+    }
+}
+
+pub fn mended_of(a: MendAnswer) -> Mended
+    ensures { λ r. ⌜ r ≡ mendedNumbers a ⌝ }
+{
+    match a {
+        MendAnswer::Mended(count) => Mended {
+            number: 0,
+            place: 0,
+            count,
+        },
+        MendAnswer::Refused(refusal) => {
+            let told = numbers_of(refusal);
+            Mended {
+                number: told.0,
+                place: told.1,
+                count: 0,
             }
         }
     }

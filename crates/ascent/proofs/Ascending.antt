@@ -11,7 +11,7 @@ use Rattle.base.proofs.Steps.{or-no, true-or-false, cond-all}
 use Rattle.format.specs.Areas.{Area, holds, holders, runsPast}
 use Rattle.format.proofs.Areas.{holds-or, holds-in}
 use Rattle.format.proofs.Inside.{one-in}
-use Rattle.named.proofs.Marked.{rows-split, row-alone}
+use Rattle.base.proofs.Rows.{rows-split, row-alone}
 use Rattle.ascent.specs.Ascend.{stretched, ascend, settled, span}
 use Rattle.ascent.specs.declared.Stretch.{Stretch}
 

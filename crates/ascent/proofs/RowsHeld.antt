@@ -19,7 +19,7 @@ use Rattle.format.proofs.Areas.{holders-append}
 use Rattle.format.proofs.Inside.{none-in, in-both, in-rows, rows-in}
 use Rattle.named.specs.Named.{leastSector, entryArea, tableGrains, grainNamed}
 use Rattle.named.specs.Listed.{Grained}
-use Rattle.named.proofs.Marked.{rows-split, rows-none}
+use Rattle.base.proofs.Rows.{rows-split, rows-none}
 use Rattle.named.proofs.Named.{tables-named}
 use Rattle.named.proofs.NamedGrains.{pick-rows, sector-v}
 use Rattle.ascent.specs.Ascend.{tableRow, tableRows}

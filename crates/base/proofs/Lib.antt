@@ -5,5 +5,6 @@ pub mod Numbers
 pub mod Strings
 pub mod Over
 pub mod OverApart
+pub mod SameBytes
 pub mod Rows
 pub mod SumsBelow

@@ -1,10 +1,10 @@
--- Laws of rows: lengths, what stands where, equal rows.
-use Prim.Native.Nat.{ℕ, zero, suc, _*_, _<_}
+-- Laws of rows: some rows of many, lengths, what stands where, equal rows.
+use Prim.Native.Nat.{ℕ, zero, suc, _+_, _*_, _<_}
 use mathlib.Core.Path.{_≡_, refl, sym, _∙_}
-use mathlib.Core.List.{List, [], _∷_}
+use mathlib.Core.List.{List, [], _∷_, _++_, append-assoc, append-nil}
 use mathlib.Core.Logic.{⊎-elim}
 use native.Mathlib.Omega.{arith}
-use native.Mathlib.Nat.{suc-mul, zero-mul, mul-one, add-zero}
+use native.Mathlib.Nat.{suc-mul, zero-mul, mul-one, add-zero, add-suc}
 use lib.ListN.{length, getD, length-append}
 use Rattle.base.proofs.Steps.{lt-or-ge}
 use Rattle.base.specs.Numbers.{leBytes}
@@ -16,6 +16,23 @@ pub rows-same : {A : Type 0} (n : ℕ) (f h : ℕ → List A) → ((i : ℕ) →
 unfolding rows
 rows-same zero f h e = refl
 rows-same (suc n) f h e = rw (rows-same n f h (λ i b. e i (omega arith)), e n (omega arith))
+
+-- the first m rows, and the n after them
+pub rows-split : {A : Type 0} (m n : ℕ) (f : ℕ → List A) → rows (m + n) f ≡ rows m f ++ rows n (λ k. f (m + k))
+unfolding rows
+rows-split m zero f = rw add-zero (sym (append-nil _))
+rows-split m (suc n) f = rw (add-suc, rows-split m n f, append-assoc)
+
+-- one row
+pub row-alone : {A : Type 0} (f : ℕ → List A) (k : ℕ) → rows 1 (λ i. f (k + i)) ≡ f k
+unfolding rows
+row-alone f k = rw add-zero
+
+-- rows with nothing in them
+pub rows-none : {A : Type 0} (n : ℕ) (f : ℕ → List A) → ((i : ℕ) → i < n → f i ≡ []) → rows n f ≡ []
+unfolding rows
+rows-none zero f h = refl
+rows-none (suc n) f h = rw (rows-none n f (λ i l. h i (omega arith)), h n (omega arith))
 
 -- rows of one length
 pub rows-length : {A : Type 0} (n w : ℕ) (f : ℕ → List A) → ((i : ℕ) → i < n → length (f i) ≡ w) → length (rows n f) ≡ n * w

@@ -5,11 +5,12 @@ use mathlib.Core.Bool.{false}
 use lib.Dec.{eqb}
 use Rattle.base.specs.Pick.{pick}
 use Rattle.format.specs.Answers.{number, place, verdict, markedNumbers, located, chained, written, framed, surveyed}
+use Rattle.format.specs.Answers.{mendedNumbers}
 use Rattle.format.specs.declared.Refusal.{Refusal}
 use Rattle.format.specs.declared.Refusal.the-variants.{TooShort, Magic, Version, Newline, Flags, Sizes, Footer, Misplaced}
 use Rattle.format.specs.declared.Refusal.the-variants.{GrainPast, Marker, CopiesDiffer, SharedSector, SectorPast}
 use Rattle.format.specs.declared.Refusal.the-variants.{TooLittleRoom, LayersDiffer, NotCollapsible, LayerLengths}
-use Rattle.format.specs.declared.Refusal.the-variants.{StillOpen}
+use Rattle.format.specs.declared.Refusal.the-variants.{StillOpen, NotMendable}
 use Rattle.format.specs.declared.Source.{Source}
 use Rattle.format.specs.declared.Source.the-variants.{Absent, Zero, Stored, Packed}
 use Rattle.format.specs.declared.CheckAnswer.{CheckAnswer}
@@ -23,6 +24,9 @@ use Rattle.format.specs.declared.CollapseAnswer.the-variants.{Written as
 use Rattle.format.specs.declared.FrameAnswer.{FrameAnswer}
 use Rattle.format.specs.declared.FrameAnswer.the-variants.{Listed, Refused as notListed}
 use Rattle.format.specs.declared.MarkedAnswer.{MarkedAnswer}
+use Rattle.format.specs.declared.MendAnswer.{MendAnswer}
+use Rattle.format.specs.declared.MendAnswer.the-variants.{Mended as mendedIn, Refused as notMended}
+use Rattle.format.specs.declared.Mended.{Mended}
 use Rattle.format.specs.declared.Verdict.{Verdict}
 use Rattle.format.specs.declared.Marked.{Marked}
 use Rattle.format.specs.declared.Located.{Located}
@@ -54,7 +58,8 @@ refusalOf n p =
     (pick (eqb n 20) SectorPast
     (pick (eqb n 21) TooLittleRoom
     (pick (eqb n 22) LayersDiffer
-    (pick (eqb n 23) NotCollapsible (pick (eqb n 24) LayerLengths StillOpen))))))))))))))))
+    (pick (eqb n 23) NotCollapsible
+    (pick (eqb n 24) LayerLengths (pick (eqb n 27) StillOpen NotMendable)))))))))))))))))
 
 -- a refusal has its number and place, and the number is not 0
 record Told (r : Refusal) : Type 0 where
@@ -81,6 +86,7 @@ told LayersDiffer = record { back = refl; some = refl }
 told NotCollapsible = record { back = refl; some = refl }
 told LayerLengths = record { back = refl; some = refl }
 told StillOpen = record { back = refl; some = refl }
+told NotMendable = record { back = refl; some = refl }
 
 pub refusal-alike : (r q : Refusal) → number r ≡ number q → place r ≡ place q → r ≡ q
 refusal-alike r q e p = sym (told r .back) ∙ rw (e, p) (told q .back)
@@ -194,3 +200,15 @@ survey-back (notSurveyed r) = rw (told r .some, told r .back)
 
 pub survey-alike : (a b : SurveyAnswer) → surveyed a ≡ surveyed b → a ≡ b
 survey-alike = lossless surveyed surveyOf survey-back
+
+-- ---- mending
+abbrev mendOf : Mended → MendAnswer
+mendOf m = pick (eqb (m .number) 0) (mendedIn (m .count)) (notMended (refusalOf (m .number) (m .place)))
+
+mend-back : (a : MendAnswer) → mendOf (mendedNumbers a) ≡ a
+unfolding pick
+mend-back (mendedIn n) = refl
+mend-back (notMended r) = rw (told r .some, told r .back)
+
+pub mend-alike : (a b : MendAnswer) → mendedNumbers a ≡ mendedNumbers b → a ≡ b
+mend-alike = lossless mendedNumbers mendOf mend-back

@@ -10,6 +10,8 @@ use lib.Dec.{ltb}
 use borrow.Author.Tests.{lt-ltb}
 use Rattle.base.specs.Pick.{pick}
 use Rattle.base.proofs.Steps.{or-no, lt-or-ge, pick-both}
+use Rattle.format.specs.declared.Entry.{Entry}
+use Rattle.format.specs.declared.Entry.the-variants.{Absent, Zero, Sector}
 use Rattle.format.specs.Entries.{inTable, meaningAt, entryOfGrain, markerSize, grainSectors, anyBelow}
 
 -- grain base + k, where base is d tables on, uses directory entry d and table entry k
@@ -20,6 +22,13 @@ entry-of s oneIsZero perTable directory base d k eq lt =
     let q : (d * perTable + k) / perTable ≡ d = mul-add-div-right (omega arith) d k ∙ rw (div-eq-of-lt lt, add-zero) in
     let r : (d * perTable + k) % perTable ≡ k = mul-add-mod-self-right d perTable k ∙ mod-eq-of-lt lt in
     rw (eq, q, r)
+
+-- ---- what is said of an entry differs only where it names a sector
+pub by-entry : {A : Type 0} (p q : Entry → A) → p Absent ≡ q Absent → p Zero ≡ q Zero → (d : Entry)
+    → ((e : ℕ) → d ≡ Sector e → p (Sector e) ≡ q (Sector e)) → p d ≡ q d
+by-entry p q a z Absent f = a
+by-entry p q a z Zero f = z
+by-entry p q a z (Sector e) f = f e refl
 
 -- ---- what a grain takes
 -- of an image only a packed grain's size counts

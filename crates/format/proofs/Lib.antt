@@ -25,3 +25,12 @@ pub mod LayersAt
 pub mod AnyBelow
 pub mod Faults
 pub mod PlacesKept
+pub mod SameHeader
+pub mod Held
+pub mod MendedBytes
+pub mod ReadAlike
+pub mod MendedApart
+pub mod FromGood
+pub mod MendedRead
+pub mod MendedAlike
+pub mod Mendable

@@ -4,7 +4,7 @@ use Rattle.format.specs.declared.Refusal.{Refusal}
 use Rattle.format.specs.declared.Refusal.the-variants.{TooShort, Magic, Version, Newline, Flags, Sizes, Footer, Misplaced}
 use Rattle.format.specs.declared.Refusal.the-variants.{GrainPast, Marker, CopiesDiffer, SharedSector, SectorPast}
 use Rattle.format.specs.declared.Refusal.the-variants.{TooLittleRoom, LayersDiffer, NotCollapsible, LayerLengths}
-use Rattle.format.specs.declared.Refusal.the-variants.{StillOpen}
+use Rattle.format.specs.declared.Refusal.the-variants.{StillOpen, NotMendable}
 use Rattle.format.specs.declared.Source.{Source}
 use Rattle.format.specs.declared.Source.the-variants.{Absent, Zero, Stored, Packed}
 use Rattle.format.specs.declared.HeaderAnswer.{HeaderAnswer}
@@ -22,12 +22,15 @@ use Rattle.format.specs.declared.FrameAnswer.the-variants.{Listed, Refus
 use Rattle.format.specs.declared.SurveyAnswer.{SurveyAnswer}
 use Rattle.format.specs.declared.SurveyAnswer.the-variants.{Surveyed as surveyedIn, Refused as surveyRefused}
 use Rattle.format.specs.declared.MarkedAnswer.{MarkedAnswer}
+use Rattle.format.specs.declared.MendAnswer.{MendAnswer}
+use Rattle.format.specs.declared.MendAnswer.the-variants.{Mended as mendedIn, Refused as mendRefused}
 use Rattle.format.specs.declared.Verdict.{Verdict}
 use Rattle.format.specs.declared.Marked.{Marked}
 use Rattle.format.specs.declared.Located.{Located}
 use Rattle.format.specs.declared.Written.{Written}
 use Rattle.format.specs.declared.Framed.{Framed}
 use Rattle.format.specs.declared.Surveyed.{Surveyed}
+use Rattle.format.specs.declared.Mended.{Mended}
 use Rattle.format.specs.declared.Head.{Head}
 
 -- ---- refusals: number and place
@@ -50,6 +53,7 @@ number LayersDiffer = 22
 number NotCollapsible = 23
 number LayerLengths = 24
 number StillOpen = 27
+number NotMendable = 40
 
 -- the grain for 9 and 10 (the lowest one at fault; in a lookup the sector's own), else 0
 abbrev pub place : Refusal → ℕ
@@ -71,6 +75,7 @@ place LayersDiffer = 0
 place NotCollapsible = 0
 place LayerLengths = 0
 place StillOpen = 0
+place NotMendable = 0
 
 -- ---- a header alone: the descriptor's numbers as it has them, 0 for COWD, and of either kind the dirty number. None is judged
 -- here: 8 and 27 are no rules of the header
@@ -145,3 +150,8 @@ surveyed (surveyedIn t) =
     record { number = 0; place = 0; stored = t .stored; zero = t .zero; absent = t .absent; packed = t .packed }
 surveyed (surveyRefused r) =
     record { number = number r; place = place r; stored = 0; zero = 0; absent = 0; packed = 0 }
+
+-- ---- mending: how many entries differed
+abbrev pub mendedNumbers : MendAnswer → Mended
+mendedNumbers (mendedIn count) = record { number = 0; place = 0; count = count }
+mendedNumbers (mendRefused r) = record { number = number r; place = place r; count = 0 }

@@ -7,7 +7,9 @@ use mathlib.Core.Bool.{false}
 use Rattle.format.specs.Header.{directoryEntriesOf, judge}
 use Rattle.format.specs.Areas.{areas, meet}
 use Rattle.format.specs.Check.{misplaced, lowestPast, lowestBadMarker, copiesDiffer, checkApart, check}
+use Rattle.format.specs.Mend.{fromGood}
 use Rattle.format.specs.declared.Header.{Header}
+use Rattle.format.specs.declared.Side.{Side}
 use Rattle.format.specs.declared.Lowest.the-variants.{None}
 use Rattle.format.specs.declared.HeaderAnswer.the-variants.{Known}
 
@@ -30,6 +32,15 @@ pub record Sound (h : Header) : Type 0 where
 pub record Placed (s : List ℕ) (h : Header) : Type 0 where
   pub sound : Sound h
   pub kept : misplaced s h ≡ false
+
+-- 1 to 8 of an image with two directories, where g is its header as read from one side
+pub record Sided (s : List ℕ) (g : Header) : Type 0 where
+  pub side : Side
+  pub header : Header
+  pub judged : judge s ≡ Known header
+  pub kept : misplaced s header ≡ false
+  pub two : header .redundant ≡ 0 → ⊥
+  pub is : g ≡ fromGood side header
 
 -- 1 to 9: and so do the grains
 pub record Filed (s : List ℕ) (h : Header) : Type 0 where

@@ -15,4 +15,5 @@ pub mod Collapse
 pub mod Answers
 pub mod Survey
 pub mod CheckIn
+pub mod Mend
 pub mod Judged

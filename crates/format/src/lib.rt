@@ -50,7 +50,8 @@ pub struct Header {
     pub dirty: u64,
 }
 
-// Why a call on images refuses, in the order of the numbers 1 to 12, 20 to 24, 27. A case holds the grain that is its place.
+// Why a call on images refuses, in the order of its numbers: 1 to 12, 20 to 24, 27, 40. A case holds the grain that is its
+// place.
 pub enum Refusal {
     TooShort,
     Magic,
@@ -70,6 +71,13 @@ pub enum Refusal {
     NotCollapsible,
     LayerLengths,
     StillOpen,
+    NotMendable,
+}
+
+// Whose tables are good where the two directories' tables differ.
+pub enum Side {
+    Primary,
+    Redundant,
 }
 
 // What judging a part of an image finds.
@@ -162,6 +170,12 @@ pub enum SurveyAnswer {
     Refused(Refusal),
 }
 
+pub enum MendAnswer {
+    // How many entries differed.
+    Mended(u64),
+    Refused(Refusal),
+}
+
 // The check in a lent list: its answer, and how many sectors it marked.
 pub struct MarkedAnswer {
     pub checked: CheckAnswer,
@@ -209,6 +223,14 @@ pub struct Written {
 // The areas of an image but its grains.
 #[repr(C)]
 pub struct Framed {
+    pub number: u64,
+    pub place: u64,
+    pub count: u64,
+}
+
+// How many entries of the two sides' tables differed.
+#[repr(C)]
+pub struct Mended {
     pub number: u64,
     pub place: u64,
     pub count: u64,

@@ -32,10 +32,12 @@ use Rattle.format.specs.declared.FrameAnswer.the-variants.{Listed}
 use Rattle.format.proofs.HeaderJudged.{judged-rules, judged-header}
 use Rattle.format.proofs.HeaderSound.{sound-of}
 use Rattle.format.proofs.Places.{redundant-tables}
-use Rattle.laws.specs.SameFrame.{SameBytes, SameAreas, decidingAreas, SameFrame, SameFrames}
+use Rattle.base.specs.Bytes.{SameBytes}
+use Rattle.laws.specs.SameFrame.{SameAreas, decidingAreas, SameFrame, SameFrames}
 use Rattle.laws.specs.Unused.{SameTables, SameInUse, SameUsed}
-use Rattle.laws.proofs.SameBytes.{within, number-same, areas-both, areas-row, area-there, area-named}
-use Rattle.laws.proofs.SameHeader.{four-sectors, SameHead, head-sizes, judge-same}
+use Rattle.base.proofs.SameBytes.{within, number-same}
+use Rattle.laws.proofs.SameAreas.{areas-both, areas-row, area-there, area-named}
+use Rattle.format.proofs.SameHeader.{four-sectors, SameHead, head-sizes, judge-same}
 use Rattle.laws.proofs.UsedAnswers.{used-check, used-lookup, used-frame, used-list, used-row}
 use Rattle.laws.proofs.UsedCheckIn.{used-check-in, used-lent}
 use Rattle.laws.proofs.UsedChain.{used-chain}
@@ -123,14 +125,14 @@ module _ (s t : List ℕ) (both : SameFrame s t) where
 
   same-head : SameHead s t
   same-head = record {
-    long = both .long;
-    some = sectors-some;
-    head = within s t _ _ 0 512 (parts .header .0) (omega arith) (omega (arith, header-some s (headerOf s) known));
-    more = λ l n. within s t _ _ 0 2048 (parts .header .0) (omega arith) (omega (arith, four-sectors s n));
-    tail = λ m e. (
-      area-there s t _ _ (parts .footer) (has-footer m ∙ e),
-      area-there s t _ _ (parts .last) (has-footer m ∙ e),
-    );
+    fields = record {
+      long = both .long;
+      some = sectors-some;
+      head = within s t _ _ 0 512 (parts .header .0) (omega arith) (omega (arith, header-some s (headerOf s) known));
+      more = λ l n. within s t _ _ 0 2048 (parts .header .0) (omega arith) (omega (arith, four-sectors s n));
+      foot = λ m e. area-there s t _ _ (parts .footer) (has-footer m ∙ e);
+    };
+    last = λ m e. area-there s t _ _ (parts .last) (has-footer m ∙ e);
   }
 
   in-use : SameInUse s t (headerOf s)
@@ -154,8 +156,8 @@ module _ (s t : List ℕ) (both : SameFrame s t) where
   decides : SameUsed s t
   decides = record {
     judged = judge-same s t same-head;
-    capacity = head-sizes s t same-head .0;
-    grainSize = head-sizes s t same-head .1;
+    capacity = head-sizes s t (same-head .fields) .0;
+    grainSize = head-sizes s t (same-head .fields) .1;
     used = λ h e. rw (judged-header s h e) in-use;
   }
 

@@ -33,8 +33,7 @@ pub mod ExtentsLaid
 pub mod ExtentsLines
 pub mod ExtentsRead
 pub mod ExtentsHeld
-pub mod SameBytes
-pub mod SameHeader
+pub mod SameAreas
 pub mod Unused
 pub mod UnusedLookup
 pub mod Counts
@@ -53,6 +52,8 @@ pub mod CheckRefusals
 pub mod FirstMeeting
 pub mod CheckInRoom
 pub mod UsedCheckIn
+pub mod MendedImage
+pub mod MendedList
 pub mod StillOpenAnswer
 pub mod NeverUsed
 pub mod NeverUsedCollapse

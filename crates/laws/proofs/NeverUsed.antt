@@ -22,11 +22,11 @@ use Rattle.format.specs.declared.HeaderAnswer.the-variants.{Known, Refused as u
 use Rattle.format.specs.declared.LookupAnswer.{LookupAnswer}
 use Rattle.format.specs.Judged.{Sound}
 use Rattle.format.proofs.HeaderSound.{sound-of}
-use Rattle.laws.specs.SameFrame.{SameBytes}
+use Rattle.base.specs.Bytes.{SameBytes}
 use Rattle.laws.specs.Unused.{SameTables, SameInUse, SameUsed}
 use Rattle.laws.specs.NeverUsed.{SameSectors, SameLayers}
-use Rattle.laws.proofs.SameBytes.{number-same, part-same}
-use Rattle.laws.proofs.SameHeader.{SameHead, head-sizes, judge-same}
+use Rattle.base.proofs.SameBytes.{number-same, part-same}
+use Rattle.format.proofs.SameHeader.{SameHead, head-sizes, judge-same}
 use Rattle.laws.proofs.UnusedLookup.{SameAnswer, refused, found, InFile, unused-lookup}
 use Rattle.laws.proofs.UsedAnswers.{used-check, used-lookup, used-frame, used-list, used-row}
 use Rattle.laws.proofs.UsedCheckIn.{used-check-in, used-lent}
@@ -39,11 +39,14 @@ module _ (s t : List ℕ) (both : SameSectors s t) where
   -- ---- 1 to 7
   same-head : SameHead s t
   same-head = record {
-    long = both .long;
-    some = both .some;
-    head = below 0 512 (omega (arith, both .some));
-    more = λ l n. below 0 2048 (omega (arith, l));
-    tail = λ m e. (below _ 512 (omega (arith, both .some)), below _ 512 (omega (arith, both .some)));
+    fields = record {
+      long = both .long;
+      some = both .some;
+      head = below 0 512 (omega (arith, both .some));
+      more = λ l n. below 0 2048 (omega (arith, l));
+      foot = λ m e. below _ 512 (omega (arith, both .some));
+    };
+    last = λ m e. below _ 512 (omega (arith, both .some));
   }
 
   pub never-used-header : judge s ≡ judge t
@@ -90,8 +93,8 @@ module _ (s t : List ℕ) (both : SameSectors s t) where
   pub never-used : SameUsed s t
   never-used = record {
     judged = never-used-header;
-    capacity = head-sizes s t same-head .0;
-    grainSize = head-sizes s t same-head .1;
+    capacity = head-sizes s t (same-head .fields) .0;
+    grainSize = head-sizes s t (same-head .fields) .1;
     used = λ h e. in-use h (sound-of s h e);
   }
 

@@ -20,7 +20,6 @@ use Rattle.format.specs.Areas.{area, ifThere, headerArea, footerArea, holders}
 use Rattle.format.specs.Accepted.{FooterRules, Accepted}
 use Rattle.format.specs.Accepted.Accepted.{kdmv, cowd}
 use Rattle.format.specs.Check.{check}
-use Rattle.format.specs.Frame.{frame}
 use Rattle.format.specs.declared.Header.{Header}
 use Rattle.format.specs.declared.CheckAnswer.the-variants.{Accepted as accepts}
 use Rattle.format.proofs.Areas.{holds-in}
@@ -30,7 +29,7 @@ use Rattle.laws.specs.StillOpen.{SameBut, SameButTwice}
 use Rattle.laws.proofs.AcceptedImage.{accepted-sound}
 use Rattle.laws.proofs.ServedSectors.{accepted-good}
 use Rattle.laws.proofs.StillOpenUsed.{SameElse}
-use Rattle.laws.proofs.SameHeader.{four-sectors}
+use Rattle.format.proofs.SameHeader.{four-sectors}
 use Rattle.laws.proofs.StillOpenHeader.{kdmv-with, cowd-with}
 use Rattle.laws.proofs.StillOpenFooter.{spared, same-directory, same-broken}
 use Rattle.laws.proofs.StillOpenRead.{clear-used}

@@ -1,13 +1,10 @@
 -- Where no sector lies in two areas, the sectors of header and footer are none that directories, tables or markers are read in.
-use Prim.Native.Nat.{ℕ, zero, suc, _+_, _≤_, _<_}
+use Prim.Native.Nat.{ℕ, _+_, _≤_}
 use mathlib.Core.Path.{_≡_}
 use mathlib.Core.List.{List, [], _∷_}
-use mathlib.Core.Logic.{⊎-elim}
 use native.Mathlib.Omega.{arith}
 use borrow.Author.Tests.{ne-eqb}
 use Rattle.base.specs.Pick.{pick}
-use Rattle.base.specs.Rows.{rows}
-use Rattle.base.proofs.Steps.{lt-or-ge}
 use Rattle.format.specs.Header.{grainsOf, directoryEntriesOf}
 use Rattle.format.specs.Entries.{meaningAt, grainEntry, grainSectors}
 use Rattle.format.specs.Areas.{Area, area, ifThere, named, headerArea, directoryArea, redundantArea, tableAreas, primaryTables}
@@ -15,26 +12,11 @@ use Rattle.format.specs.Areas.{redundantTables, footerArea, grainArea, grainAre
 use Rattle.format.specs.Accepted.{AreaRules}
 use Rattle.format.specs.Judged.{Sound}
 use Rattle.format.specs.declared.Header.{Header}
-use Rattle.format.specs.declared.Entry.{Entry}
-use Rattle.format.specs.declared.Entry.the-variants.{Sector}
 use Rattle.format.proofs.Areas.{holds-in, holders-append}
 use Rattle.format.proofs.Entries.{some-sectors}
+use Rattle.format.proofs.Held.{held-row, held-named}
 use Rattle.format.proofs.Places.{redundant-tables}
 use Rattle.laws.proofs.StillOpenRead.{ClearTables, ClearImage}
-
--- ---- what a sector of one area of a list tells
-held-row : (n : ℕ) (f : ℕ → List Area) (k : ℕ) → k < n → (x : ℕ) → holders (f k) x ≤ holders (rows n f) x
-unfolding rows
-held-row zero f k l x = absurd (omega arith)
-held-row (suc n) f k l x =
-    let all = holders-append (rows n f) (f n) x in
-    let last : holders (f n) x ≤ holders (rows (suc n) f) x = omega arith in
-    ⊎-elim (λ b. omega (arith, held-row n f k b x)) (λ b. let q : k ≡ n = omega arith in rw q last) (lt-or-ge k n)
-
-held-named : (sectors : ℕ → ℕ) (d : Entry) (e x : ℕ) → d ≡ Sector e → e ≤ x → x < e + sectors e
-    → holders (named sectors d) x ≡ 1
-unfolding named holders
-held-named sectors d e x q l b = rw (q, holds-in (area e (sectors e)) x l b)
 
 module _ (s : List ℕ) (h : Header) (sound : Sound h) (rules : AreaRules s h) (spot : ℕ → Type 0)
     (held : (x : ℕ) → spot x → 1 ≤ holders (headerArea h) x + holders (footerArea s h) x) where
@@ -68,7 +50,7 @@ module _ (s : List ℕ) (h : Header) (sound : Sound h) (rules : AreaRules s h) (
     );
     tables = λ d u l e x m b z.
         let names : ℕ → List Area = λ i. named (λ j. h .«table_sectors») (meaningAt s (h .«one_is_zero») directory i) in
-        let row = held-row (directoryEntriesOf h) names d l x in
+        let row = held-row names x (directoryEntriesOf h) d l in
         omega (arith, among x, none-reads x z, row, held-named (λ j. h .«table_sectors») _ u x e m b);
   }
 
@@ -85,7 +67,7 @@ module _ (s : List ℕ) (h : Header) (sound : Sound h) (rules : AreaRules s h) (
         (λ x. rw (← redundant-among two x, ← redundant-tables s h two) (omega arith));
     markers = λ g e l q x m b z.
         let some = some-sectors s (h .packed) (h .«grain_size») e (sound .sizes .low) in
-        let row = held-row (grainsOf h) (grainArea s h) g l x in
+        let row = held-row (grainArea s h) x (grainsOf h) g l in
         omega (
           arith,
           none-reads x z,

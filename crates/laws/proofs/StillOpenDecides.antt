@@ -14,10 +14,10 @@ use Rattle.format.specs.Survey.{rowOf}
 use Rattle.format.specs.declared.HeaderAnswer.{HeaderAnswer}
 use Rattle.format.specs.declared.HeaderAnswer.the-variants.{Known, Refused}
 use Rattle.format.specs.declared.ChainAnswer.{ChainAnswer}
-use Rattle.laws.specs.SameFrame.{SameBytes}
+use Rattle.base.specs.Bytes.{SameBytes}
 use Rattle.laws.specs.StillOpen.{OtherNumber}
 use Rattle.laws.specs.StillOpen.OtherNumber.{kdmv, footer, cowd}
-use Rattle.laws.proofs.SameHeader.{front-sizes}
+use Rattle.format.proofs.SameHeader.{front-sizes}
 use Rattle.laws.proofs.UsedChain.{SameLayer, layers-chain}
 use Rattle.laws.proofs.StillOpenUsed.{answerWith, SameElse, else-check, else-lookup, else-frame, else-list, else-row}
 use Rattle.laws.proofs.StillOpenFront.{else-kdmv}

@@ -13,9 +13,9 @@ use Rattle.format.specs.Geometry.{bytesAt}
 use Rattle.format.specs.Kdmv.{footerAt, lastAt, footerDirectory, footerBroken}
 use Rattle.format.specs.Accepted.{FooterRules}
 use Rattle.format.proofs.HeaderFooter.{kept-footer}
-use Rattle.laws.specs.SameFrame.{SameBytes}
+use Rattle.base.specs.Bytes.{SameBytes}
 use Rattle.laws.specs.StillOpen.{SameButTwice}
-use Rattle.laws.proofs.SameBytes.{number-same, part-same}
+use Rattle.base.proofs.SameBytes.{number-same, part-same}
 
 -- byte i of a part
 part-at : (s : List ℕ) (at n i : ℕ) → i < n → getD (bytesAt s at n) i 0 ≡ getD s (at + i) 0

@@ -20,8 +20,8 @@ use Rattle.format.specs.declared.Header.{Header}
 use Rattle.format.specs.declared.Fault.{Fault}
 use Rattle.format.specs.declared.Fault.the-variants.{None, Found}
 use Rattle.format.specs.declared.HeaderAnswer.{HeaderAnswer}
-use Rattle.laws.specs.SameFrame.{SameBytes}
-use Rattle.laws.proofs.SameBytes.{within, number-same, string-same}
+use Rattle.base.specs.Bytes.{SameBytes}
+use Rattle.base.proofs.SameBytes.{within, number-same, string-same}
 use Rattle.laws.proofs.StillOpenUsed.{withDirty, answerWith}
 
 -- ---- the steps of a judgement

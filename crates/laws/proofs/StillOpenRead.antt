@@ -10,9 +10,9 @@ use Rattle.format.specs.Entries.{entryAt, meaningAt, grainEntry}
 use Rattle.format.specs.declared.Header.{Header}
 use Rattle.format.specs.declared.Entry.the-variants.{Sector}
 use Rattle.format.specs.Judged.{Sound}
-use Rattle.laws.specs.SameFrame.{SameBytes}
+use Rattle.base.specs.Bytes.{SameBytes}
 use Rattle.laws.specs.Unused.{SameTables, SameInUse}
-use Rattle.laws.proofs.SameBytes.{within, number-same}
+use Rattle.base.proofs.SameBytes.{within, number-same}
 
 -- none of the sectors from `first` on is a spot
 abbrev pub Clear : (ℕ → Type 0) → ℕ → ℕ → Type 0

@@ -2,7 +2,7 @@
 -- the markers of packed grains are checked alike. Entries past the last grain are not judged.
 use Prim.Native.Nat.{ℕ, _+_, _/_, _%_, _≤_, _<_}
 use mathlib.Core.Path.{_≡_, refl, ap}
-use mathlib.Core.List.{List, _++_, append-assoc}
+use mathlib.Core.List.{List}
 use mathlib.Core.Bool.{Bool, true, false, _||_}
 use native.Mathlib.Omega.{arith}
 use native.Mathlib.Nat.{div-add-mod', mod-lt}
@@ -15,7 +15,7 @@ use Rattle.format.specs.Geometry.{fileSectors}
 use Rattle.format.specs.Header.{grainsOf, directoryEntriesOf}
 use Rattle.format.specs.Entries.{meaning, inTable, meaningAt, entryOfGrain, grainEntry, entriesInUse}
 use Rattle.format.specs.Entries.{grainSectors, markerBroken}
-use Rattle.format.specs.Areas.{Area, named, tableAreas, primaryTables, redundantTables, grainArea, grainAreas, areas}
+use Rattle.format.specs.Areas.{Area, named, tableAreas, primaryTables, redundantTables, grainArea, areas}
 use Rattle.format.specs.Areas.{runsPast}
 use Rattle.format.specs.Frame.{frameWords, frameAreas}
 use Rattle.format.specs.Check.{directoryMisplaced, redundantDirectoryMisplaced, entryDiffers, misplaced, grainPast}
@@ -29,24 +29,14 @@ use Rattle.format.specs.declared.Lowest.the-variants.{None, Grain}
 use Rattle.format.specs.declared.Refusal.{Refusal}
 use Rattle.format.specs.declared.CheckAnswer.{CheckAnswer}
 use Rattle.format.proofs.Geometry.{entry-used}
-use Rattle.format.proofs.Entries.{some-same, sectors-same, some-sectors, past-same}
+use Rattle.format.proofs.Entries.{by-entry, some-same, sectors-same, some-sectors, past-same}
 use Rattle.format.proofs.Inside.{table-in, named-in}
 use Rattle.format.proofs.LowestGrain.{none-lowest, lowest-same}
+use Rattle.format.proofs.ReadAlike.{areas-frame}
 use Rattle.format.proofs.Places.{Places, places-kept, primary-in, directory-in, redundant-in, redundant-tables}
 use Rattle.laws.specs.Unused.{SameEntries, SameTables, SameInUse}
 
--- ---- all areas are the frame's and the grains'
-pub areas-frame : (s : List ℕ) (h : Header) → areas s h ≡ frameAreas s h ++ grainAreas s h
-unfolding areas frameAreas
-areas-frame s h = simp append-assoc
-
--- ---- what is said of an entry differs only where it names a sector
-by-entry : {A : Type 0} (p q : Entry → A) → p Absent ≡ q Absent → p Zero ≡ q Zero → (d : Entry)
-    → ((e : ℕ) → d ≡ Sector e → p (Sector e) ≡ q (Sector e)) → p d ≡ q d
-by-entry p q a z Absent f = a
-by-entry p q a z Zero f = z
-by-entry p q a z (Sector e) f = f e refl
-
+-- ---- two directory entries
 copy-same : (s t : List ℕ) (n : ℕ) (a b : Entry) → ((u : ℕ) → a ≡ Sector u → SameEntries s t u n)
     → ((u : ℕ) → b ≡ Sector u → SameEntries s t u n) → copyDiffers s n a b ≡ copyDiffers t n a b
 unfolding copyDiffers

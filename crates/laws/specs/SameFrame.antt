@@ -1,10 +1,11 @@
 -- What two images agree in that have the same answers: the bytes of the frame, but for the descriptor's, and, of packed grains,
 -- the markers.
-use Prim.Native.Nat.{ℕ, _+_, _*_, _≤_, _<_}
+use Prim.Native.Nat.{ℕ, _*_, _<_}
 use mathlib.Core.Path.{_≡_}
 use mathlib.Core.List.{List, [], _∷_, _++_}
 use mathlib.Core.Bool.{true}
-use lib.ListN.{length, getD}
+use lib.ListN.{length}
+use Rattle.base.specs.Bytes.{SameBytes}
 use Rattle.format.specs.Geometry.{fileSectors}
 use Rattle.format.specs.Header.{headerOf, grainsOf}
 use Rattle.format.specs.Entries.{grainEntry}
@@ -15,10 +16,6 @@ use Rattle.format.specs.Chain.{layerAt}
 use Rattle.format.specs.declared.Header.{Header}
 use Rattle.format.specs.declared.Entry.the-variants.{Sector}
 use Rattle.format.specs.declared.FrameAnswer.the-variants.{Listed}
-
--- the n bytes from `at` on
-abbrev pub SameBytes : List ℕ → List ℕ → ℕ → ℕ → Type 0
-SameBytes s t at n = (i : ℕ) → at ≤ i → i < at + n → getD s i 0 ≡ getD t i 0
 
 -- the sectors of each area of a list
 abbrev pub SameAreas : List ℕ → List ℕ → List Area → Type 0

@@ -1,12 +1,12 @@
 -- A loop that marks row after row: what is done so far is a run that met nothing.
-use Prim.Native.Nat.{ℕ, zero, suc, _+_, _-_, _≤_, _<_}
-use mathlib.Core.Path.{_≡_, refl, sym, _∙_}
-use mathlib.Core.List.{List, [], _++_, append-assoc, append-nil}
+use Prim.Native.Nat.{ℕ, _+_, _-_, _≤_, _<_}
+use mathlib.Core.Path.{_≡_, refl, _∙_}
+use mathlib.Core.List.{List}
 use mathlib.Core.Bool.{Bool, true, false}
 use native.Mathlib.Omega.{arith}
-use native.Mathlib.Nat.{add-zero, add-suc}
 use lib.ListN.{length}
 use Rattle.base.specs.Rows.{rows}
+use Rattle.base.proofs.Rows.{rows-split, row-alone}
 use Rattle.format.specs.Areas.{Area}
 use Rattle.window.specs.Run.{Run, done}
 use Rattle.window.proofs.RunLaws.{run-length, run-more, run-stop}
@@ -15,22 +15,6 @@ use Rattle.window.proofs.RunLaws.{run-length, run-more, run-stop}
 pub record Marked (lo : ℕ) (ws₀ : List ℕ) (l : List Area) (ws : List ℕ) : Type 0 where
   pub size : length ws ≡ length ws₀
   pub run : Run lo ws₀ l ws false
-
-pub rows-split : (m n : ℕ) (p : ℕ → List Area) → rows (m + n) p ≡ rows m p ++ rows n (λ k. p (m + k))
-unfolding rows
-rows-split m zero p = rw add-zero (sym (append-nil _))
-rows-split m (suc n) p = rw (add-suc, rows-split m n p, append-assoc)
-
--- one row
-pub row-alone : (p : ℕ → List Area) (k : ℕ) → rows 1 (λ i. p (k + i)) ≡ p k
-unfolding rows
-row-alone p k = rw add-zero
-
--- rows of which none has an area
-pub rows-none : (n : ℕ) (p : ℕ → List Area) → ((k : ℕ) → k < n → p k ≡ []) → rows n p ≡ []
-unfolding rows
-rows-none zero p h = refl
-rows-none (suc n) p h = rw (rows-none n p (λ k l. h k (omega arith)), h n (omega arith))
 
 module _ (lo : ℕ) (ws₀ : List ℕ) (p : ℕ → List Area) where
   pub marked-start : Marked lo ws₀ (rows 0 p) ws₀

@@ -9,7 +9,7 @@ use lib.ListN.{length}
 use borrow.Author.Tests.{lt-ltb, le-ltb, ne-eqb}
 use Rattle.base.specs.Pick.{pick}
 use Rattle.base.specs.Rows.{rows}
-use Rattle.base.proofs.Rows.{rows-same}
+use Rattle.base.proofs.Rows.{rows-none, rows-same}
 use Rattle.format.specs.Geometry.{fileSectors}
 use Rattle.format.specs.Entries.{entryAt, meaning, meaningAt, grainSectors}
 use Rattle.format.specs.Areas.{Area, area, named, tableAreas, runsPast}
@@ -21,7 +21,7 @@ use Rattle.window.specs.Run.{Run, done}
 use Rattle.named.specs.Named.{leastSector, entryArea, entryAreas, tableGrains}
 use Rattle.named.specs.Listed.{Listed}
 use Rattle.blocks.specs.Blocks.{Passed}
-use Rattle.named.proofs.Marked.{Marked, rows-none, marked-rows, met-rows}
+use Rattle.named.proofs.Marked.{Marked, marked-rows, met-rows}
 
 -- an entry names nothing below the lowest that is a sector, and else its sector
 pub by-least : (f : Entry → List Area) → f Absent ≡ [] → f Zero ≡ [] → (b : Bool) (e : ℕ)

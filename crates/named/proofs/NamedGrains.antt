@@ -9,14 +9,14 @@ use lib.ListN.{length}
 use Rattle.base.specs.Pick.{pick}
 use Rattle.base.specs.Rows.{rows}
 use Rattle.base.proofs.Rounding.{next-base}
-use Rattle.base.proofs.Rows.{rows-same}
+use Rattle.base.proofs.Rows.{rows-none, rows-same}
 use Rattle.format.specs.Entries.{entryAt, inTable, grainSectors}
 use Rattle.format.specs.Areas.{Area, named}
 use Rattle.format.proofs.Entries.{entry-of}
 use Rattle.window.specs.Run.{Run}
 use Rattle.named.specs.Named.{leastSector, entryArea, tableGrains, grainNamed}
 use Rattle.named.specs.Listed.{Listed, Grained}
-use Rattle.named.proofs.Marked.{Marked, rows-none, marked-start, marked-rows, met-rows}
+use Rattle.named.proofs.Marked.{Marked, marked-start, marked-rows, met-rows}
 use Rattle.named.proofs.Named.{by-least, entry-named}
 
 -- rows under a test

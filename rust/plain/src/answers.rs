@@ -100,6 +100,14 @@ pub struct Surveyed {
     pub packed: u64,
 }
 
+/// The mending's answer: how many entries differed, which the list of changes starts with.
+#[derive(Clone, Copy, Debug, Default, PartialEq, Eq)]
+pub struct Mended {
+    pub number: u64,
+    pub place: u64,
+    pub count: u64,
+}
+
 /// What a descriptor says beside its extents.
 #[derive(Clone, Copy, Debug, Default, PartialEq, Eq)]
 pub struct Described {

@@ -66,17 +66,11 @@ fn judge_copies(image: &Image) -> Result<(), Refusal> {
     if image.header.redundant == 0 {
         return Ok(());
     }
-    let primary = image.directory(image.header.directory);
-    let redundant = image.directory(image.header.redundant);
-    for (index, pair) in primary.into_iter().zip(redundant).enumerate() {
-        let same = match pair {
-            (Entry::Sector(one), Entry::Sector(other)) => image
-                .grains_of(index as u64)
-                .all(|grain| image.grain_entry(one, grain) == image.grain_entry(other, grain)),
-            (one, other) => one == other,
-        };
-        if !same {
-            return Err(refusal(11));
+    for pair in image.pairs().ok_or_else(|| refusal(11))? {
+        for grain in pair.grains {
+            if image.grain_entry(pair.primary, grain) != image.grain_entry(pair.redundant, grain) {
+                return Err(refusal(11));
+            }
         }
     }
     Ok(())

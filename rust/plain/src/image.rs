@@ -3,6 +3,7 @@
 use crate::answers::{refusal, Refusal};
 use crate::header::Header;
 use crate::numbers::{number, past, sector, up, whole_sectors, SECTOR};
+use std::ops::Range;
 
 /// What a directory or table entry says.
 #[derive(Clone, Copy, Debug, PartialEq, Eq)]
@@ -11,6 +12,13 @@ pub enum Entry {
     Zero,
     /// The sector of a table or of a grain.
     Sector(u64),
+}
+
+/// A table of each directory, by its sector, that one directory entry names, and the grains that it stands for.
+pub struct Pair {
+    pub grains: Range<u64>,
+    pub primary: u64,
+    pub redundant: u64,
 }
 
 #[derive(Clone, Copy)]
@@ -36,7 +44,7 @@ impl<'a> Image<'a> {
 
     /// Entry `index` of the directory or table that starts at sector `at`, which was found to lie below F.
     pub fn entry(&self, at: u64, index: u64) -> Entry {
-        self.meaning(number(self.bytes, at * SECTOR + index * 4, 4))
+        self.meaning(number(self.bytes, entry_at(at, index), 4))
     }
 
     /// The entries in use of the directory at sector `at`.
@@ -47,14 +55,47 @@ impl<'a> Image<'a> {
     }
 
     /// The grains that directory entry `index` stands for; past the last grain there are none.
-    pub fn grains_of(&self, index: u64) -> std::ops::Range<u64> {
+    pub fn grains_of(&self, index: u64) -> Range<u64> {
         let per_table = self.header.entries_per_table();
         index * per_table..((index + 1) * per_table).min(self.header.grains())
     }
 
-    /// The entry of grain `grain` in the table at sector `table`.
+    /// The byte where the entry of grain `grain` starts in the table at sector `table`.
+    pub fn grain_entry_at(&self, table: u64, grain: u64) -> u64 {
+        entry_at(table, grain % self.header.entries_per_table())
+    }
+
+    /// That entry as a number.
+    pub fn grain_number(&self, table: u64, grain: u64) -> u64 {
+        number(self.bytes, self.grain_entry_at(table, grain), 4)
+    }
+
+    /// That entry's meaning.
     pub fn grain_entry(&self, table: u64, grain: u64) -> Entry {
-        self.entry(table, grain % self.header.entries_per_table())
+        self.meaning(self.grain_number(table, grain))
+    }
+
+    /// The tables that both directories name, by entry. Nothing where there is no redundant directory, or where it has not
+    /// absent, zero and tables where the primary has. Needs 8 passed.
+    pub fn pairs(&self) -> Option<Vec<Pair>> {
+        if self.header.redundant == 0 {
+            return None;
+        }
+        let mut pairs = Vec::new();
+        for index in 0..self.header.directory_entries() {
+            let primary = self.entry(self.header.directory, index);
+            let redundant = self.entry(self.header.redundant, index);
+            match (primary, redundant) {
+                (Entry::Sector(primary), Entry::Sector(redundant)) => pairs.push(Pair {
+                    grains: self.grains_of(index),
+                    primary,
+                    redundant,
+                }),
+                (one, other) if one == other => {}
+                _ => return None,
+            }
+        }
+        Some(pairs)
     }
 
     /// Whether the table at sector `table` runs past F.
@@ -111,4 +152,9 @@ impl<'a> Image<'a> {
         }
         Ok(())
     }
+}
+
+/// The byte where entry `index` starts in the directory or table at sector `at`.
+fn entry_at(at: u64, index: u64) -> u64 {
+    at * SECTOR + index * 4
 }

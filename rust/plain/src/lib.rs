@@ -13,14 +13,15 @@ mod header;
 mod image;
 mod line;
 mod lookup;
+mod mend;
 mod numbers;
 mod split;
 mod survey;
 mod write;
 
 pub use answers::{
-    Described, Extent, Found, Framed, Head, Located, Marked, Part, Refusal, Surveyed, Verdict,
-    Written, ABSENT, PACKED, STORED, ZERO,
+    Described, Extent, Found, Framed, Head, Located, Marked, Mended, Part, Refusal, Surveyed,
+    Verdict, Written, ABSENT, PACKED, STORED, ZERO,
 };
 pub use chain::chain;
 pub use check::check;
@@ -29,6 +30,7 @@ pub use describe::{descriptor, find, MOST_EXTENTS, MOST_TEXT};
 pub use frame::frame;
 pub use header::header;
 pub use lookup::{lookup, read};
+pub use mend::mend;
 pub use split::split;
 pub use survey::survey;
 pub use write::{collapse, normal, over};

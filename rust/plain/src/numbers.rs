@@ -13,6 +13,16 @@ pub fn number(bytes: &[u8], at: u64, size: usize) -> u64 {
     value
 }
 
+/// Writes the little-endian u32 at `at`.
+pub fn put32(bytes: &mut [u8], at: u64, value: u64) {
+    bytes[at as usize..at as usize + 4].copy_from_slice(&(value as u32).to_le_bytes());
+}
+
+/// Writes the little-endian u64 at `at`.
+pub fn put64(bytes: &mut [u8], at: u64, value: u64) {
+    bytes[at as usize..at as usize + 8].copy_from_slice(&value.to_le_bytes());
+}
+
 /// F: the file's whole sectors.
 pub fn whole_sectors(image: &[u8]) -> u64 {
     image.len() as u64 / SECTOR

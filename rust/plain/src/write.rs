@@ -4,7 +4,7 @@ use crate::answers::{refusal, Refusal, Written};
 use crate::check::accept;
 use crate::header::Kind;
 use crate::image::{Entry, Image};
-use crate::numbers::{up, SECTOR};
+use crate::numbers::{put32, put64, up, SECTOR};
 
 /// What one grain of the result is.
 #[derive(Clone)]
@@ -156,12 +156,4 @@ fn of_layer<'a>(image: &Image<'a>, grain: u64) -> Grain<'a> {
             Grain::Stored(&image.bytes[start..start + (below_capacity * SECTOR) as usize])
         }
     }
-}
-
-fn put32(out: &mut [u8], at: u64, value: u64) {
-    out[at as usize..at as usize + 4].copy_from_slice(&(value as u32).to_le_bytes());
-}
-
-fn put64(out: &mut [u8], at: u64, value: u64) {
-    out[at as usize..at as usize + 8].copy_from_slice(&value.to_le_bytes());
 }

@@ -1,9 +1,9 @@
 -- What a header is read from: the first sector, of COWD the first four and, where there is a footer, the last two. Images of
 -- one length that agree there have the same header.
 use Prim.Native.Nat.{ℕ, _+_, _≤_}
-use mathlib.Core.Path.{_≡_, refl, ap}
+use mathlib.Core.Path.{_≡_, refl, sym, ap, _∙_}
 use mathlib.Core.List.{List}
-use mathlib.Core.Bool.{true, false}
+use mathlib.Core.Bool.{true, false, true≢false}
 use native.Mathlib.Omega.{arith}
 use lib.Dec.{ltb}
 use lib.ListN.{length}
@@ -13,15 +13,15 @@ use Rattle.base.specs.Strings.{sameAt}
 use Rattle.base.specs.Bytes.{zeros}
 use Rattle.base.proofs.Over.{zeros-length}
 use Rattle.base.proofs.Steps.{pick-both}
 use Rattle.format.specs.Geometry.{fileSectors, bytesAt}
 use Rattle.format.specs.Kdmv.{kdmvMagic, newlineBytes, kdmvFields, atEnd, footerAt, lastAt, footerDirectory, footerBroken}
 use Rattle.format.specs.Cowd.{cowdMagic, cowdFields}
 use Rattle.format.specs.Header.{kdmvHeader, cowdHeader, directoryOf, headerOf, withFooter, judgeKdmv, judgeCowd, judge}
 use Rattle.format.specs.declared.Header.{Header}
 use Rattle.format.proofs.Picked.{pick-else}
 use Rattle.format.proofs.BytesAt.{part-long}
-use Rattle.laws.specs.SameFrame.{SameBytes}
-use Rattle.laws.proofs.SameBytes.{within, number-same, string-same, part-same}
+use Rattle.base.specs.Bytes.{SameBytes}
+use Rattle.base.proofs.SameBytes.{within, number-same, string-same, part-same}
 
 -- what is no KDMV header has four sectors
 pub four-sectors : (s : List ℕ) → sameAt s 0 kdmvMagic ≡ false → headerOf s .«header_sectors» ≡ 4
@@ -40,15 +40,20 @@ front-sizes s t front =
     _ _ _ _ (λ m. (number 12 8 (omega arith), number 20 8 (omega arith)))
     (λ n. (number 12 4 (omega arith), number 16 4 (omega arith))))
 
-pub record SameHead (s t : List ℕ) : Type 0 where
+-- all that a header tells
+pub record SameFields (s t : List ℕ) : Type 0 where
   pub long : length s ≡ length t
   pub some : 1 ≤ fileSectors s
   pub head : SameBytes s t 0 512
   pub more : 2048 ≤ length s → sameAt s 0 kdmvMagic ≡ false → SameBytes s t 0 2048
-  pub tail : sameAt s 0 kdmvMagic ≡ true → atEnd (kdmvFields s) ≡ true → (SameBytes s t (footerAt s) 512)
-      × (SameBytes s t (lastAt s) 512)
+  pub foot : sameAt s 0 kdmvMagic ≡ true → atEnd (kdmvFields s) ≡ true → SameBytes s t (footerAt s) 512
 
-module _ (s t : List ℕ) (both : SameHead s t) where
+-- and all that is judged of it
+pub record SameHead (s t : List ℕ) : Type 0 where
+  pub fields : SameFields s t
+  pub last : sameAt s 0 kdmvMagic ≡ true → atEnd (kdmvFields s) ≡ true → SameBytes s t (lastAt s) 512
+
+module _ (s t : List ℕ) (both : SameFields s t) where
   number : (at n : ℕ) → at + n ≤ 512 → leAt s at n ≡ leAt t at n
   number at n l = number-same s t at n (within s t 0 512 at n (both .head) (omega arith) l)
 
@@ -86,64 +91,72 @@ module _ (s t : List ℕ) (both : SameHead s t) where
         number-same s t 1648 4 (within s t 0 2048 1648 4 (both .more l n) (omega arith) (omega arith)),
       )
 
-  -- ---- where there is a footer
-  module _ (foot : SameBytes s t (footerAt s) 512) (last : SameBytes s t (lastAt s) 512) where
-    footer-directory : footerDirectory s ≡ footerDirectory t
-    footer-directory =
-        rw (
-          number-same s t (footerAt s + 56) 8
-              (within s t (footerAt s) 512 (footerAt s + 56) 8 foot (omega arith) (omega arith)),
-          both .long,
-        )
+  footer-directory : SameBytes s t (footerAt s) 512 → footerDirectory s ≡ footerDirectory t
+  footer-directory foot =
+      rw (
+        number-same s t (footerAt s + 56) 8
+            (within s t (footerAt s) 512 (footerAt s + 56) 8 foot (omega arith) (omega arith)),
+        both .long,
+      )
 
-    footer-same : footerBroken s ≡ footerBroken t
-    unfolding footerBroken
-    footer-same =
-        let f : 512 ≤ length s = omega (arith, both .some) in
-        let a : length (bytesAt s 0 56) ≡ 56 = part-long s 0 56 (omega arith) in
-        let b : length (bytesAt s 64 448) ≡ 448 = part-long s 64 448 (omega arith) in
-        rw (
-          string-same s t (footerAt s) (bytesAt s 0 56)
-              (within s t (footerAt s) 512 (footerAt s) _ foot (omega arith) (omega arith)),
-          string-same s t (footerAt s + 64) (bytesAt s 64 448)
-              (within s t (footerAt s) 512 (footerAt s + 64) _ foot (omega arith) (omega arith)),
-          part-same s t 0 56 (both .long) (within s t 0 512 0 56 (both .head) (omega arith) (omega arith)),
-          part-same s t 64 448 (both .long) (within s t 0 512 64 448 (both .head) (omega arith) (omega arith)),
-          string-same s t (lastAt s) (zeros 512) (rw (zeros-length 512) last),
-          footer-directory,
-          both .long,
-        )
+  directory-same : sameAt s 0 kdmvMagic ≡ true → directoryOf s (kdmvFields s) ≡ directoryOf t (kdmvFields s)
+  unfolding directoryOf
+  directory-same kdmv =
+      pick-both _≡_ (atEnd (kdmvFields s)) _ _ _ _ (λ e. footer-directory (both .foot kdmv e)) (λ n. refl)
+
+  pub kdmv-header-same : sameAt s 0 kdmvMagic ≡ true → headerOf s ≡ headerOf t
+  unfolding headerOf
+  kdmv-header-same kdmv =
+      rw (← string 0 kdmvMagic (omega arith), ← kdmv-same, ← directory-same kdmv)
+      (pick-both _≡_ (sameAt s 0 kdmvMagic) _ _ _ _ (λ m. refl) (λ n. absurd (true≢false (sym kdmv ∙ n))))
+
+  pub head-sizes : (headerOf s .capacity ≡ headerOf t .capacity) × (headerOf s .«grain_size» ≡ headerOf t .«grain_size»)
+  head-sizes = front-sizes s t (within s t 0 512 0 28 (both .head) (omega arith) (omega arith))
+
+module _ (s t : List ℕ) (all : SameHead s t) where
+  both : SameFields s t
+  both = all .fields
+
+  -- ---- where there is a footer
+  footer-same : SameBytes s t (footerAt s) 512 → SameBytes s t (lastAt s) 512 → footerBroken s ≡ footerBroken t
+  unfolding footerBroken
+  footer-same foot last =
+      let f : 512 ≤ length s = omega (arith, both .some) in
+      let a : length (bytesAt s 0 56) ≡ 56 = part-long s 0 56 (omega arith) in
+      let b : length (bytesAt s 64 448) ≡ 448 = part-long s 64 448 (omega arith) in
+      rw (
+        string-same s t (footerAt s) (bytesAt s 0 56)
+            (within s t (footerAt s) 512 (footerAt s) _ foot (omega arith) (omega arith)),
+        string-same s t (footerAt s + 64) (bytesAt s 64 448)
+            (within s t (footerAt s) 512 (footerAt s + 64) _ foot (omega arith) (omega arith)),
+        part-same s t 0 56 (both .long) (within s t 0 512 0 56 (both .head) (omega arith) (omega arith)),
+        part-same s t 64 448 (both .long) (within s t 0 512 64 448 (both .head) (omega arith) (omega arith)),
+        string-same s t (lastAt s) (zeros 512) (rw (zeros-length 512) last),
+        footer-directory s t both foot,
+        both .long,
+      )
 
   module _ (kdmv : sameAt s 0 kdmvMagic ≡ true) where
-    directory-same : directoryOf s (kdmvFields s) ≡ directoryOf t (kdmvFields s)
-    unfolding directoryOf
-    directory-same =
-        pick-both _≡_ (atEnd (kdmvFields s)) _ _ _ _ (λ e. let r = both .tail kdmv e in footer-directory (r .0) (r .1))
-        (λ n. refl)
-
     with-footer-same : (h : Header) → withFooter s (atEnd (kdmvFields s)) h ≡ withFooter t (atEnd (kdmvFields s)) h
     unfolding withFooter
     with-footer-same h =
-        pick-both _≡_ (atEnd (kdmvFields s)) _ _ _ _ (λ e. let r = both .tail kdmv e in rw (footer-same (r .0) (r .1)))
+        pick-both _≡_ (atEnd (kdmvFields s)) _ _ _ _ (λ e. rw (footer-same (both .foot kdmv e) (all .last kdmv e)))
         (λ n. refl)
 
     judge-kdmv-same : judgeKdmv s ≡ judgeKdmv t
     unfolding judgeKdmv
-    judge-kdmv-same = rw (← both .long, ← kdmv-same, directory-same, with-footer-same)
+    judge-kdmv-same = rw (← both .long, ← kdmv-same s t both, directory-same s t both kdmv, with-footer-same)
 
   judge-cowd-same : sameAt s 0 kdmvMagic ≡ false → judgeCowd s ≡ judgeCowd t
   unfolding judgeCowd
   judge-cowd-same n =
       rw (← both .long)
-      (pick-both _≡_ (ltb (length s) 2048) _ _ _ _ (λ q. refl) (λ q. rw (cowd-same (ltb-false _ _ q) n)))
-
-  pub head-sizes : (headerOf s .capacity ≡ headerOf t .capacity) × (headerOf s .«grain_size» ≡ headerOf t .«grain_size»)
-  head-sizes = front-sizes s t (within s t 0 512 0 28 (both .head) (omega arith) (omega arith))
+      (pick-both _≡_ (ltb (length s) 2048) _ _ _ _ (λ q. refl) (λ q. rw (cowd-same s t both (ltb-false _ _ q) n)))
 
   pub judge-same : judge s ≡ judge t
   unfolding judge
   judge-same =
-      rw (← both .long, ← string 0 kdmvMagic (omega arith), ← string 0 cowdMagic (omega arith))
+      rw (← both .long, ← string s t both 0 kdmvMagic (omega arith), ← string s t both 0 cowdMagic (omega arith))
       (pick-both _≡_ _ _ _ _ _ (λ q. refl)
       (λ n.
       pick-both _≡_ (sameAt s 0 kdmvMagic) _ _ _ _ judge-kdmv-same
