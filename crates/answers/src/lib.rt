@@ -1,7 +1,7 @@
 // Answers in document 01's numbers, for whoever prints them or hands them on.
 ghost use mathlib.Core.Path.{_≡_};
 ghost use Rattle.format.specs.Answers.{number, place, headerNumbers, verdict, markedNumbers, served, unserved};
-ghost use Rattle.format.specs.Answers.{located, chained, written, framed, surveyed, mendedNumbers};
+ghost use Rattle.format.specs.Answers.{located, chained, written, framed, surveyed, sideOf, mendedNumbers};
 use format::ChainAnswer;
 use format::CheckAnswer;
 use format::CollapseAnswer;
@@ -16,6 +16,7 @@ use format::MarkedAnswer;
 use format::MendAnswer;
 use format::Mended;
 use format::Refusal;
+use format::Side;
 use format::Source;
 use format::SurveyAnswer;
 use format::Surveyed;
@@ -248,6 +249,15 @@ pub fn surveyed_of(a: SurveyAnswer) -> Surveyed
             }
         }
     }
+}
+
+pub fn side_of(good: u64) -> Side
+    ensures { λ r. ⌜ r ≡ sideOf good ⌝ }
+{
+    if good == 0 {
+        return Side::Primary;
+    }
+    Side::Redundant
 }
 
 pub fn mended_of(a: MendAnswer) -> Mended

@@ -100,18 +100,18 @@ fn frame_in(image: &[u8], list: &mut [u64]) {
     programs::end();
 }
 
-fn at_most_96(room: usize) -> usize
-    ensures { λ r. ⌜ r ≤ 96 ⌝ }
+fn at_most(most: usize, n: usize) -> usize
+    ensures { λ r. ⌜ (r ≤ most) × (r ≤ n) ⌝ }
 {
-    if 96 < room {
-        return 96;
+    if most < n {
+        return most;
     }
-    room
+    n
 }
 
 // The words hold 170 before the call: it shows which were not written.
 pub fn frame(image: &[u8], room: usize) {
-    let n = at_most_96(room);
+    let n = at_most(96, room);
     let mut words = [170u64; 96];
     frame_in(image, &mut words[0..n]);
 }
@@ -131,9 +131,45 @@ fn check_in_list(image: &[u8], list: &mut [u64]) {
 
 // Each word holds 170 before the call: old bits must not count.
 pub fn check_in(image: &[u8], room: usize) {
-    let n = at_most_96(room);
+    let n = at_most(96, room);
     let mut words = [170u64; 96];
     check_in_list(image, &mut words[0..n]);
+}
+
+// The first n bytes of one over the other's.
+fn copy(from: &[u8], to: &mut [u8], n: usize)
+    requires { ⌜ (n ≤ length (now from)) × (n ≤ length (now to)) ⌝ }
+{
+    let mut i = 0;
+    while i < n {
+        to[i] = from[i];
+        i += 1;
+    }
+}
+
+// Number, place, count, the digest of the image after the call, and the words of the list.
+fn mend_in(image: &mut [u8], good: u64, list: &mut [u64]) {
+    let side = answers::side_of(good);
+    let told = answers::mended_of(mend::mend(&mut *image, side, &mut *list));
+    programs::start(b"mend ");
+    programs::put(told.number);
+    programs::put(told.place);
+    programs::put(told.count);
+    programs::put(programs::digest(image));
+    put_words(list);
+    programs::end();
+}
+
+// The first of the lengths names the good side, the second is the list's room; each word holds 170 before the call.
+pub fn mend(image: &[u8], lengths: &[u8], out: &mut [u8])
+    requires { ⌜ length (now lengths) ≤ 136 ⌝ }
+{
+    let numbers = programs::numbers_of(lengths);
+    let n = at_most(96, numbers[1] as usize);
+    let mut words = [170u64; 96];
+    let long = at_most(image.len(), out.len());
+    copy(image, &mut *out, long);
+    mend_in(&mut out[0..long], numbers[0], &mut words[0..n]);
 }
 
 // Number, place and totals, and the words of both lists.
@@ -153,15 +189,6 @@ fn survey_in(images: &[u8], lengths: &[u64], rows: &mut [u64], tally: &mut [u64]
     programs::end();
 }
 
-fn at_most_128(room: usize) -> usize
-    ensures { λ r. ⌜ r ≤ 128 ⌝ }
-{
-    if 128 < room {
-        return 128;
-    }
-    room
-}
-
 // Both lists hold 170 in each word before the call. A room of 1,000 more is one with a tally that is a word too short.
 pub fn survey(images: &[u8], lengths: &[u8], room: usize)
     requires { ⌜ length (now lengths) ≤ 136 ⌝ }
@@ -172,11 +199,11 @@ pub fn survey(images: &[u8], lengths: &[u8], room: usize)
     let mut rows = [170u64; 128];
     let mut tally = [170u64; 66];
     if room < 1000 {
-        let most = at_most_128(room);
+        let most = at_most(128, room);
         survey_in(images, &all[0..n], &mut rows[0..most], &mut tally);
         return;
     }
-    let left = at_most_128(room - 1000);
+    let left = at_most(128, room - 1000);
     survey_in(images, &all[0..n], &mut rows[0..left], &mut tally[0..62]);
 }
 

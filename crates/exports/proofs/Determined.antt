@@ -19,6 +19,7 @@ use Rattle.exports.proofs.anhkhovet_frame as frame
 use Rattle.exports.proofs.anhkhovet_normal as normal
 use Rattle.exports.proofs.anhkhovet_collapse as collapse
 use Rattle.exports.proofs.lists.anhkhovet_survey as survey
+use Rattle.exports.proofs.lists.anhkhovet_mend as mend
 use Rattle.exports.proofs.extents.anhkhovet_descriptor as descriptor
 use Rattle.exports.proofs.extents.anhkhovet_find as find
 use Rattle.exports.proofs.extents.anhkhovet_split as split
@@ -118,7 +119,7 @@ module _ (T : Ended) where
           ((r ≡ answer κs a) × (ws ≡ put κs a (content κs a) (other κs a)))
           (λ p. (p .0, all κs a ws ∙ (λ i. put κs a (p .1 .0 i) (p .1 .1 i)))))
 
--- ---- the thirteen calls: each `_` is what the contract itself says
+-- ---- the fourteen calls: each `_` is what the contract itself says
 pub check-determined : Determined check.ended (λ M. check.spec)
 check-determined = answered check.ended _ (λ κs a. (tt, tt)) (λ κs a ws. refl)
 
@@ -160,6 +161,11 @@ pub survey-determined : Determined survey.ended (λ M. survey.spec)
 survey-determined =
     written-both survey.ended _ _ _ _ _ (λ κs e. now (e .1 .1 .0)) (λ κs e. now (e .1 .1 .1 .0))
     (λ κs a x y. (tt, (tt, (x, (y, tt))))) (λ κs a ws. refl)
+
+pub mend-determined : Determined mend.ended (λ M. mend.spec)
+mend-determined =
+    written-both mend.ended _ _ _ _ _ (λ κs e. now (e .0)) (λ κs e. now (e .1 .1 .0))
+    (λ κs a x y. (x, (tt, (y, tt)))) (λ κs a ws. refl)
 
 pub descriptor-determined : Determined descriptor.ended (λ M. descriptor.spec)
 descriptor-determined =

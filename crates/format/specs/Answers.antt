@@ -1,5 +1,7 @@
 -- The answers in document 01's numbers: a refusal's number and place, and for each answer its values.
 use Prim.Native.Nat.{ℕ}
+use lib.Dec.{eqb}
+use Rattle.base.specs.Pick.{pick}
 use Rattle.format.specs.declared.Refusal.{Refusal}
 use Rattle.format.specs.declared.Refusal.the-variants.{TooShort, Magic, Version, Newline, Flags, Sizes, Footer, Misplaced}
 use Rattle.format.specs.declared.Refusal.the-variants.{GrainPast, Marker, CopiesDiffer, SharedSector, SectorPast}
@@ -32,6 +34,8 @@ use Rattle.format.specs.declared.Framed.{Framed}
 use Rattle.format.specs.declared.Surveyed.{Surveyed}
 use Rattle.format.specs.declared.Mended.{Mended}
 use Rattle.format.specs.declared.Head.{Head}
+use Rattle.format.specs.declared.Side.{Side}
+use Rattle.format.specs.declared.Side.the-variants.{Primary, Redundant}
 
 -- ---- refusals: number and place
 abbrev pub number : Refusal → ℕ
@@ -152,6 +156,10 @@ surveyed (surveyRefused r) =
     record { number = number r; place = place r; stored = 0; zero = 0; absent = 0; packed = 0 }
 
 -- ---- mending: how many entries differed
+-- the good side, named by a number: 0 is the primary, any other the redundant
+abbrev pub sideOf : ℕ → Side
+sideOf good = pick (eqb good 0) Primary Redundant
+
 abbrev pub mendedNumbers : MendAnswer → Mended
 mendedNumbers (mendedIn count) = record { number = 0; place = 0; count = count }
 mendedNumbers (mendRefused r) = record { number = number r; place = place r; count = 0 }
