@@ -18,14 +18,15 @@ use Rattle.format.specs.Areas.{redundantTables, footerArea, areas, runsP
 use Rattle.format.specs.Accepted.{KdmvRules}
 use Rattle.format.specs.Check.{misplaced, copiesDiffer, unlessGrain, checkApart, checkCopies, checkGrains, checkLayout}
 use Rattle.format.specs.Check.{lowestPast, checkFrom, check}
-use Rattle.format.specs.Mend.{fromGood, goodEntry, otherEntry, kindsDiffer, areasKeptApart}
+use Rattle.format.specs.Mend.{fromGood, goodEntry, otherEntry, kindsDiffer, areasKeptApart, isRefused}
 use Rattle.format.specs.Judged.{Placed, Sided}
 use Rattle.format.specs.declared.Header.{Header}
 use Rattle.format.specs.declared.Side.{Side}
 use Rattle.format.specs.declared.Side.the-variants.{Primary, Redundant}
 use Rattle.format.specs.declared.Lowest.the-variants.{None}
 use Rattle.format.specs.declared.HeaderAnswer.the-variants.{Known}
-use Rattle.format.specs.declared.CheckAnswer.the-variants.{Accepted}
+use Rattle.format.specs.declared.CheckAnswer.{CheckAnswer}
+use Rattle.format.specs.declared.CheckAnswer.the-variants.{Accepted, Refused}
 use Rattle.format.proofs.Areas.{holders-append, meet-apart, apart-meet}
 use Rattle.format.proofs.Filed.{judged-front, inside-all}
 use Rattle.format.proofs.FromGood.{back, placed-from, places-from, two-from}
@@ -42,8 +43,14 @@ use Rattle.format.proofs.Places.{places-kept, kept-places}
 use Rattle.format.proofs.ReadAlike.{holders-areas, holders-frame, Alike, alike-back, Unbroken, alike-unbroken}
 use Rattle.format.proofs.SameHeader.{SameFields, kdmv-header-same, judge-same}
 
+-- ---- what is not refused
+pub not-refused : (a : CheckAnswer) → isRefused a ≡ false → (c : ℕ) × (size : ℕ) × (a ≡ Accepted c size)
+unfolding isRefused
+not-refused (Accepted c size) q = (c, size, refl)
+not-refused (Refused r) q = absurd (true≢false q)
+
 -- ---- the areas of the frame that count are among all
-holders-six : (a b c d e f : List Area) (x : ℕ) → holders (a ++ (b ++ (c ++ (d ++ (e ++ f))))) x
+pub holders-six : (a b c d e f : List Area) (x : ℕ) → holders (a ++ (b ++ (c ++ (d ++ (e ++ f))))) x
     ≡ holders a x + (holders b x + (holders c x + (holders d x + (holders e x + holders f x))))
 holders-six a b c d e f x = simp holders-append
 
@@ -136,7 +143,7 @@ module _ (s : List ℕ) (g : Header) (z : Sided s g) where
         }
 
     -- if its header is judged, it is the image's
-    same-header : (h : Header) → judge m ≡ Known h → h ≡ z .header
+    pub same-header : (h : Header) → judge m ≡ Known h → h ≡ z .header
     same-header h e =
         judged-header m h e
         ∙ sym (kdmv-header-same s m fields-same magic)

@@ -15,7 +15,7 @@ use Rattle.format.specs.Areas.{directoryArea, redundantArea, primaryTabl
 use Rattle.format.specs.Frame.{frameAreas}
 use Rattle.format.specs.Check.{copyDiffers, copiesDiffer}
 use Rattle.format.specs.Mend.{fromGood, goodEntry, otherEntry, kindsDiffer, areasKeptApart}
-use Rattle.format.specs.Judged.{Placed}
+use Rattle.format.specs.Judged.{Sound, Placed}
 use Rattle.format.specs.declared.Header.{Header}
 use Rattle.format.specs.declared.Side.{Side}
 use Rattle.format.specs.declared.Side.the-variants.{Primary, Redundant}
@@ -72,6 +72,14 @@ copy-alike m n (Sector t) Zero e f = e
 copy-alike m n (Sector t) (Sector u) e f =
     no-some _ n (λ k l. rw (eq-eqb (entryAt m t k) (entryAt m u k) (f t u refl refl k l)))
 
+-- ---- the entry of a grain is one in use
+module _ (g : Header) (sound : Sound g) (x : ℕ) (l : x < grainsOf g) where
+  pub grain-used : x / g .«entries_per_table» < directoryEntriesOf g
+  grain-used = entry-used (g .capacity) (g .«grain_size») (sound .sizes .low) (g .«entries_per_table») (sound .some) x l
+
+  pub grain-in-use : x % g .«entries_per_table» < entriesInUse g (x / g .«entries_per_table»)
+  grain-in-use = omega (arith, mod-lt x (sound .some), div-add-mod' x (g .«entries_per_table»))
+
 -- ---- the changed image, where the directories hold 0, 1 and tables in the same places
 module _ (s : List ℕ) (g : Header) (m : List ℕ) (p : Placed s g) (two : g .redundant ≡ 0 → ⊥)
     (apart : Apart (areasKeptApart s g)) (c : Changed s g m)
@@ -85,20 +93,17 @@ module _ (s : List ℕ) (g : Header) (m : List ℕ) (p : Placed s g) (two : g .r
     k = x % g .«entries_per_table»
 
     used : d < directoryEntriesOf g
-    used = entry-used (g .capacity) (g .«grain_size») (p .sound .sizes .low) (g .«entries_per_table») (p .sound .some) x l
-
-    low : k < g .«entries_per_table»
-    low = mod-lt x (p .sound .some)
+    used = grain-used g (p .sound) x l
 
     in-use : k < entriesInUse g d
-    in-use = omega (arith, low, div-add-mod' x (g .«entries_per_table»))
+    in-use = grain-in-use g (p .sound) x l
 
     grain-good : grainEntry s g x ≡ grainEntry m g x
     unfolding entryOfGrain inTable
     grain-good =
         rw (good-entry s g m p two apart (c .rest) d used)
         (by-entry (inTable s (g .«one_is_zero») k) (inTable m (g .«one_is_zero») k) refl refl (goodEntry s g d)
-        (λ t e. ap (meaning (g .«one_is_zero»)) (sym (good-table s g m p two apart (c .rest) d used t e k low))))
+        (λ t e. ap (meaning (g .«one_is_zero»)) (sym (good-table s g m p two apart (c .rest) d used t e k (omega (arith, in-use))))))
 
     grain-other : grainEntry s g x ≡ grainEntry m (fromGood Redundant g) x
     unfolding entryOfGrain fromGood

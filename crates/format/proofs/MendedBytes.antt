@@ -67,11 +67,11 @@ module _ (s m : List ℕ) (n : ℕ) where
 
 -- ---- the tables of the first d directory entries
 module _ (s : List ℕ) (g : Header) (p : Placed s g) (two : g .redundant ≡ 0 → ⊥) where
-  good-room : (d : ℕ) → d < directoryEntriesOf g → (t : ℕ) → goodEntry s g d ≡ Sector t → 512 * t + 4 * entriesInUse g d
+  pub good-room : (d : ℕ) → d < directoryEntriesOf g → (t : ℕ) → goodEntry s g d ≡ Sector t → 512 * t + 4 * entriesInUse g d
       ≤ length s
   good-room d l t e = omega (arith, table-room s g p (directoryEntriesOf g) refl d t l e)
 
-  other-room : (d : ℕ) → d < directoryEntriesOf g → (u : ℕ) → otherEntry s g d ≡ Sector u → 512 * u + 4 * entriesInUse g d
+  pub other-room : (d : ℕ) → d < directoryEntriesOf g → (u : ℕ) → otherEntry s g d ≡ Sector u → 512 * u + 4 * entriesInUse g d
       ≤ length s
   other-room d l u e = omega (arith, copy-room s g p (directoryEntriesOf g) refl two d u l e)
 

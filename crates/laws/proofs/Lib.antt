@@ -54,6 +54,9 @@ pub mod CheckInRoom
 pub mod UsedCheckIn
 pub mod MendedImage
 pub mod MendedList
+pub mod MendedAgain
+pub mod NothingToMend
+pub mod ExamplesMend
 pub mod StillOpenAnswer
 pub mod NeverUsed
 pub mod NeverUsedCollapse

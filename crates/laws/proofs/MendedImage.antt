@@ -1,9 +1,10 @@
 -- Mending (request A7): after an answer the image is accepted, no byte differs but in entries in use of the other side's
 -- tables, these have the good side's entries, and the good side has what it had; on a refusal all is as lent.
-use Prim.Native.Nat.{ℕ, _*_, _/_, _≤_, _<_}
+use Prim.Native.Nat.{ℕ, _+_, _*_, _/_, _≤_, _<_}
 use mathlib.Core.Path.{_≡_, refl, sym, ap, _∙_}
 use mathlib.Core.List.{List}
-use mathlib.Core.Bool.{Bool, true, false, true≢false}
+use mathlib.Core.Bool.{Bool, false}
+use mathlib.Core.Logic.{inl, inr, ⊎-elim}
 use native.Mathlib.Omega.{arith}
 use lib.Dec.{ltb, eqb}
 use lib.ListN.{length, getD}
@@ -13,29 +14,32 @@ use Rattle.base.specs.Pick.{pick}
 use Rattle.format.specs.Header.{headerOf, directoryEntriesOf, judge}
 use Rattle.format.specs.Entries.{entryAt, entriesInUse}
 use Rattle.format.specs.Areas.{Apart, meet}
-use Rattle.format.specs.Check.{misplaced, check}
+use Rattle.format.specs.Check.{misplaced, checkLayout, check}
 use Rattle.format.specs.Mend.{fromGood, goodEntry, otherEntry, mended, kindsDiffer, directoriesDiffer, areasKeptApart}
 use Rattle.format.specs.Mend.{isRefused}
 use Rattle.format.specs.Mend.{unmendable, changes, mendedIfRoom, mendGood, mendFrom, mend, afterMend, mendedImage, mendedList}
-use Rattle.format.specs.Judged.{Sided}
+use Rattle.format.specs.Judged.{Sided, Passed}
 use Rattle.format.specs.declared.Header.{Header}
 use Rattle.format.specs.declared.Side.{Side}
 use Rattle.format.specs.declared.Entry.the-variants.{Sector}
 use Rattle.format.specs.declared.Refusal.{Refusal}
 use Rattle.format.specs.declared.HeaderAnswer.{HeaderAnswer}
 use Rattle.format.specs.declared.HeaderAnswer.the-variants.{Known, Refused as unknown}
-use Rattle.format.specs.declared.CheckAnswer.{CheckAnswer}
-use Rattle.format.specs.declared.CheckAnswer.the-variants.{Accepted, Refused as checkRefused}
+use Rattle.format.specs.declared.CheckAnswer.the-variants.{Accepted}
 use Rattle.format.specs.declared.MendAnswer.{MendAnswer}
 use Rattle.format.specs.declared.MendAnswer.the-variants.{Mended, Refused}
 use Rattle.format.proofs.Areas.{meet-apart}
 use Rattle.format.proofs.HeaderJudged.{judged-header}
-use Rattle.format.proofs.Mendable.{sided-placed, sided-two}
+use Rattle.format.proofs.Entries.{some-no}
+use Rattle.format.proofs.Mendable.{not-refused, sided-placed, sided-two, same-header}
 use Rattle.format.proofs.MendedApart.{Changed, mended-changed}
-use Rattle.format.proofs.MendedBytes.{Outside, mended-spared}
-use Rattle.format.proofs.MendedRead.{good-table}
+use Rattle.format.proofs.MendedBytes.{mended-spared}
+use Rattle.format.proofs.MendedRead.{good-entry, other-entry, good-table}
+use Rattle.format.proofs.Passed.{header-passed, layout-passed}
 use Rattle.format.proofs.Picked.{passed, true-no}
+use Rattle.base.proofs.Steps.{lt-or-ge}
 use Rattle.laws.specs.StillOpen.{SomeAccepted}
+use Rattle.laws.specs.Mended.{InUse}
 
 -- ---- what an answer tells of the way to it
 mended-past : (b : Bool) (r : Refusal) (y : MendAnswer) (n : ℕ) → pick b (Refused r) y ≡ Mended n
@@ -85,10 +89,10 @@ module _ (s : List ℕ) (side : Side) (list : List ℕ) where
 
   -- ---- after an answer
   module _ (n : ℕ) (e : mend s side (length list) ≡ Mended n) where
-    told : Answered s side (length list) n good
+    pub told : Answered s side (length list) n good
     told = from-answered s side (length list) n (judge s) refl e
 
-    image-is : mendedImage s side list ≡ mended s good
+    pub image-is : mendedImage s side list ≡ mended s good
     unfolding afterMend
     image-is = rw e
 
@@ -96,37 +100,76 @@ module _ (s : List ℕ) (side : Side) (list : List ℕ) where
     unfolding afterMend
     list-is = rw e
 
-    parts : (meet (areasKeptApart s good) ≡ false) × (isRefused (check (mended s good)) ≡ false)
+    pub parts : (meet (areasKeptApart s good) ≡ false) × (isRefused (check (mended s good)) ≡ false)
     unfolding unmendable
     parts = true-no _ _ (true-no (directoriesDiffer s good) _ (told .mendable) .1)
 
-    not-refused : (a : CheckAnswer) → isRefused a ≡ false → (c : ℕ) × (size : ℕ) × (a ≡ Accepted c size)
-    unfolding isRefused
-    not-refused (Accepted c size) q = (c, size, refl)
-    not-refused (checkRefused r) q = absurd (true≢false q)
-
-    -- the image is accepted
-    pub mended-accepted : SomeAccepted (mendedImage s side list)
-    mended-accepted = rw image-is (not-refused (check (mended s good)) (parts .1))
-
-    apart : Apart (areasKeptApart s good)
+    pub apart : Apart (areasKeptApart s good)
     apart = meet-apart (areasKeptApart s good) (parts .0)
 
-    changed : Changed s good (mended s good)
+    pub changed : Changed s good (mended s good)
     changed =
         mended-changed s good (sided-placed s good (told .sided)) (sided-two s good (told .sided)) apart
+
+    -- no kind of entry differs between the directories
+    pub kinds : (d : ℕ) → d < directoryEntriesOf good → kindsDiffer (goodEntry s good d) (otherEntry s good d) ≡ false
+    unfolding unmendable
+    kinds = some-no _ (directoryEntriesOf good) (true-no (directoriesDiffer s good) _ (told .mendable) .0)
+
+    -- ---- the image is accepted, with the header that it had
+    pub accepted : SomeAccepted (mended s good)
+    accepted = not-refused (check (mended s good)) (parts .1)
+
+    known : (h : Header) × (judge (mended s good) ≡ Known h)
+        × (checkLayout (mended s good) h ≡ Accepted (accepted .0) (accepted .1))
+    known = header-passed (mended s good) (judge (mended s good)) (accepted .0) (accepted .1) (accepted .2)
+
+    same : known .0 ≡ headerOf s
+    same =
+        same-header s good (told .sided) (mended s good) apart changed kinds (known .0) (known .1)
+        ∙ judged-header s (told .sided .header) (told .sided .judged)
+
+    pub mended-judged : judge (mended s good) ≡ Known (headerOf s)
+    mended-judged = known .1 ∙ ap Known same
+
+    pub mended-passed : Passed (mended s good) (headerOf s) (accepted .0) (accepted .1)
+    mended-passed = rw same at (layout-passed (mended s good) (known .0) (accepted .0) (accepted .1) (known .2))
+
+    pub mended-accepted : check (mendedImage s side list) ≡ Accepted (headerOf s .capacity) (headerOf s .«grain_size»)
+    mended-accepted = rw image-is (rw (mended-passed .capacity, mended-passed .size) at (accepted .2))
+
+    pub header-kept : headerOf (mendedImage s side list) ≡ headerOf s
+    header-kept = rw image-is (sym (judged-header (mended s good) (headerOf s) mended-judged))
 
     pub mended-as-long : length (mendedImage s side list) ≡ length s
     mended-as-long = rw image-is (changed .rest .long)
 
-    -- no byte differs outside the entries in use of the other side's tables
-    pub else-kept : (i : ℕ)
-        → ((d : ℕ) → d < directoryEntriesOf good → Outside (entriesInUse good d) (otherEntry s good d) i)
-        → getD (mendedImage s side list) i 0 ≡ getD s i 0
-    else-kept i o =
+    -- no byte differs but those of the entries in use of the other side's tables
+    pub else-kept : (i : ℕ) → (InUse s good i → ⊥) → getD (mendedImage s side list) i 0 ≡ getD s i 0
+    else-kept i free =
         rw image-is
         (mended-spared s good (sided-placed s good (told .sided)) (sided-two s good (told .sided)) (directoryEntriesOf good)
-        (omega arith) i o)
+        (omega arith) i
+        (λ d l u names.
+        ⊎-elim (λ b. inl b)
+        (λ b.
+        ⊎-elim (λ c. absurd (free (record { d = d; below = l; u = u; names = names; from = b; to = c }))) (λ c. inr c)
+        (lt-or-ge i (512 * u + 4 * entriesInUse good d)))
+        (lt-or-ge i (512 * u))))
+
+    -- both directories have what they had
+    module _ (d : ℕ) (l : d < directoryEntriesOf good) where
+      pub good-entry-kept : goodEntry (mendedImage s side list) good d ≡ goodEntry s good d
+      good-entry-kept =
+          rw image-is
+          (good-entry s good (mended s good) (sided-placed s good (told .sided)) (sided-two s good (told .sided)) apart
+          (changed .rest) d l)
+
+      pub other-entry-kept : otherEntry (mendedImage s side list) good d ≡ otherEntry s good d
+      other-entry-kept =
+          rw image-is
+          (other-entry s good (mended s good) (sided-placed s good (told .sided)) (sided-two s good (told .sided)) apart
+          (changed .rest) d l)
 
     module _ (d : ℕ) (l : d < directoryEntriesOf good) (t : ℕ) (is : goodEntry s good d ≡ Sector t) where
       -- the good side's tables are unchanged
@@ -140,10 +183,3 @@ module _ (s : List ℕ) (side : Side) (list : List ℕ) where
       pub other-written : (u : ℕ) → otherEntry s good d ≡ Sector u → (k : ℕ) → k < entriesInUse good d
           → entryAt (mendedImage s side list) u k ≡ entryAt s t k
       other-written u names k b = rw image-is (changed .moved d t u l is names k b)
-
-    -- the list has three words for each change, and the count is theirs
-    pub changes-fit : length (changes s good) ≤ length list
-    changes-fit = told .fits
-
-    pub changes-counted : length (changes s good) / 3 ≡ n
-    changes-counted = told .count

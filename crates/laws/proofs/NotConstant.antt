@@ -9,14 +9,14 @@ use Rattle.base.specs.Pick.{pick}
 use Rattle.base.specs.Rounding.{powerUpTo}
 use Rattle.base.specs.Numbers.{leAt, leBytes}
 use Rattle.base.specs.Strings.{sameAt, sameWord, ascii}
-use Rattle.base.specs.Bytes.{zeros}
+use Rattle.base.specs.Bytes.{over, zeros}
 use Rattle.base.specs.Rows.{rows}
 use Rattle.format.specs.Geometry.{grains, directoryEntries, directorySectors}
 use Rattle.format.specs.Kdmv.{kdmvFields, kdmvFault}
 use Rattle.format.specs.Header.{kdmvHeader, directoryOf, headerOf, unlessFault, withFooter, judgeKdmv, judge}
 use Rattle.format.specs.Entries.{meaning, inTable, entryOfGrain, grainSectors, anyBelow}
 use Rattle.format.specs.Areas.{ifThere, named, redundantTables, areas, runsPast, shares, sharesAny, meet}
-use Rattle.format.specs.Check.{misplaced, lowestFrom, copiesDiffer, unlessGrain, checkApart, checkCopies}
+use Rattle.format.specs.Check.{misplaced, lowestFrom, copyDiffers, copiesDiffer, unlessGrain, checkApart, checkCopies}
 use Rattle.format.specs.Check.{checkGrains, checkLayout, checkFrom, check}
 use Rattle.format.specs.Source.{grainSource, lookupGrain, lookupEntry, lookupTable, lookupIn, lookupFrom, sectorLookup}
 use Rattle.format.specs.Source.{answerPart}
@@ -26,7 +26,10 @@ use Rattle.format.specs.Layout.{tableCount, tablesAt, tablesEnd, sectorV, layou
 use Rattle.format.specs.Collapse.{ifAccepted, writtenIfRoom, normalFrom, normal, collapseFrom, collapse}
 use Rattle.format.specs.Frame.{frameAreas, listedIfRoom, frameFrom, frame}
 use Rattle.format.specs.CheckIn.{sectorsOf, beforeMeeting, cameToMarking, checkInRoom, withMarked, checkIn}
+use Rattle.format.specs.Mend.{fromGood, overTable, mendedBelow, kindsDiffer, isRefused, unmendable, changeOf, mendedIfRoom}
+use Rattle.format.specs.Mend.{mendGood, mendFrom, mend}
 use Rattle.format.specs.Answers.{headerNumbers, verdict, markedNumbers, located, chained, written, framed, surveyed}
+use Rattle.format.specs.Answers.{sideOf, mendedNumbers}
 use Rattle.format.specs.declared.Head.{Head}
 use Rattle.format.specs.declared.Verdict.{Verdict}
 use Rattle.format.specs.declared.Marked.{Marked}
@@ -34,9 +37,10 @@ use Rattle.format.specs.declared.Located.{Located}
 use Rattle.format.specs.declared.Part.{Part}
 use Rattle.format.specs.declared.Written.{Written}
 use Rattle.format.specs.declared.Framed.{Framed}
+use Rattle.format.specs.declared.Mended.{Mended}
 use Rattle.format.specs.declared.Surveyed.{Surveyed}
 use Rattle.format.specs.Survey.{entryKind, countOf, rowFrom, addRow, totalsBelow, surveyedIfRoom, survey}
-use Rattle.laws.specs.Images.{kdmvSector, small}
+use Rattle.laws.specs.Images.{kdmvSector, small, differing}
 use Rattle.disk.specs.Split.{inZero, byType, inExtent, atExtent, splitFrom, split, splitNumbers}
 use Rattle.descriptor.specs.declared.Described.{Described}
 use Rattle.descriptor.specs.declared.Extent.{Extent}
@@ -95,6 +99,13 @@ chain-varies r same =
     differ (λ s. chained (chainLookup s (length s ∷ []) 0)) (λ (v : Located). v .kind) (small 6 0 0 8) 2 (omega arith) refl refl
     r
     (λ s. same s (length s ∷ []) 0)
+
+-- an image whose copies differ in one entry
+pub mend-varies : (r : Mended) → ((s : List ℕ) (good room : ℕ) → r ≡ mendedNumbers (mend s (sideOf good) room)) → ⊥
+unfolding pick powerUpTo leAt leBytes sameAt over zeros grains directoryEntries directorySectors kdmvFields kdmvFault kdmvHeader directoryOf headerOf unlessFault withFooter judgeKdmv judge rows meaning inTable entryOfGrain grainSectors anyBelow ifThere named redundantTables areas runsPast shares sharesAny meet misplaced lowestFrom copyDiffers copiesDiffer unlessGrain checkApart checkCopies checkGrains checkLayout checkFrom fromGood overTable mendedBelow kindsDiffer isRefused unmendable changeOf mendedIfRoom mendGood mendFrom
+mend-varies r same =
+    differ (λ s. mendedNumbers (mend s (sideOf 0) 3)) (λ (v : Mended). v .count) differing 1 (omega arith) refl refl r
+    (λ s. same s 0 3)
 
 -- header, directory and table, for which a list of nine words has room
 pub frame-varies : (r : Framed) → ((s : List ℕ) (room : ℕ) → r ≡ framed (frame s room)) → ⊥

@@ -97,6 +97,10 @@ doubled =
     ∷ zeros (2044 + 512)
     ∷ [])
 
+-- the same, but grain 1 is zero in the primary's table and absent in the other's
+abbrev pub differing : List ℕ
+differing = with 1540 4 1 doubled
+
 -- ---- streams
 -- sector 0 of a stream, or its footer: compressed, with markers, a descriptor of one sector
 abbrev pub streamSector : ℕ → List ℕ

@@ -5,6 +5,7 @@ pub mod SameFrame
 pub mod NeverUsed
 pub mod Unused
 pub mod StillOpen
+pub mod Mended
 pub mod Images
 pub mod FirstMeeting
 pub mod Examples

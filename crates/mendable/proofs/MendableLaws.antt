@@ -17,11 +17,10 @@ use Rattle.format.specs.declared.Side.{Side}
 use Rattle.format.specs.declared.Entry.{Entry}
 use Rattle.format.specs.declared.Lowest.{Lowest}
 use Rattle.format.specs.declared.Lowest.the-variants.{None, Grain}
-use Rattle.format.specs.declared.CheckAnswer.{CheckAnswer}
-use Rattle.format.specs.declared.CheckAnswer.the-variants.{Accepted, Refused}
 use Rattle.format.proofs.Areas.{meet-apart}
 use Rattle.format.proofs.Entries.{some-no}
-use Rattle.format.proofs.Mendable.{frame-apart, sided-placed, sided-two, sided-inside, accepted-unbroken, unbroken-accepted}
+use Rattle.format.proofs.Mendable.{not-refused, frame-apart, sided-placed, sided-two, sided-inside, accepted-unbroken}
+use Rattle.format.proofs.Mendable.{unbroken-accepted}
 use Rattle.format.proofs.MendedApart.{mended-changed}
 use Rattle.format.proofs.PlacesKept.{primary-room, copies-room}
 use Rattle.format.proofs.Picked.{true-no, no-true}
@@ -41,11 +40,6 @@ unless-no : (l : Lowest) (rest : Bool) → unlessNone l rest ≡ false → (l �
 unfolding unlessNone
 unless-no None rest e = (refl, e)
 unless-no (Grain x) rest e = absurd (true≢false e)
-
-not-refused : (a : CheckAnswer) → isRefused a ≡ false → (c : ℕ) × (size : ℕ) × (a ≡ Accepted c size)
-unfolding isRefused
-not-refused (Accepted c size) e = (c, size, refl)
-not-refused (Refused r) e = absurd (true≢false e)
 
 module _ (s : List ℕ) (g : Header) (z : Sided s g) where
   unbroken-of : changedRefused s g ≡ false → Unbroken s g
