@@ -46,7 +46,7 @@ fn one_if_differs(old: u64, new: u64) -> u64
     1
 }
 
-// How many of the entries from k on, before `end`, differ.
+// How many of the entries from `from` on, before `end`, differ.
 fn count_block(image: &[u8], t: u64, u: u64, from: u64, end: u64) -> u64
     requires { ⌜ (from ≤ end) × (end < 0x80000000) × (512 * t + 4 * end ≤ length (now image))
         × (512 * u + 4 * end ≤ length (now image)) ⌝ }
