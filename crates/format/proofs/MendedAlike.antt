@@ -103,7 +103,9 @@ module _ (s : List ℕ) (g : Header) (m : List ℕ) (p : Placed s g) (two : g .r
     grain-good =
         rw (good-entry s g m p two apart (c .rest) d used)
         (by-entry (inTable s (g .«one_is_zero») k) (inTable m (g .«one_is_zero») k) refl refl (goodEntry s g d)
-        (λ t e. ap (meaning (g .«one_is_zero»)) (sym (good-table s g m p two apart (c .rest) d used t e k (omega (arith, in-use))))))
+        (λ t e.
+        let low : k < g .«entries_per_table» = omega (arith, in-use) in
+        ap (meaning (g .«one_is_zero»)) (sym (good-table s g m p two apart (c .rest) d used t e k low))))
 
     grain-other : grainEntry s g x ≡ grainEntry m (fromGood Redundant g) x
     unfolding entryOfGrain fromGood

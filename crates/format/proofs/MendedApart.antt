@@ -77,8 +77,8 @@ module _ (s : List ℕ) (g : Header) (p : Placed s g) (two : g .redundant ≡ 0 
           (⊎-elim (λ c. omega (arith, one, own, held-rows tableOf x (directoryEntriesOf g) k d c l))
           (λ c. omega (arith, one, own, held-rows tableOf x (directoryEntriesOf g) d k (omega arith) m)) (lt-or-ge k d))
 
-    pub mended-byte : (d t u : ℕ) → d < directoryEntriesOf g → goodEntry s g d ≡ Sector t → otherEntry s g d ≡ Sector u → (j : ℕ)
-        → j < 4 * entriesInUse g d → getD (mended s g) (512 * u + j) 0 ≡ getD s (512 * t + j) 0
+    pub mended-byte : (d t u : ℕ) → d < directoryEntriesOf g → goodEntry s g d ≡ Sector t → otherEntry s g d ≡ Sector u
+        → (j : ℕ) → j < 4 * entriesInUse g d → getD (mended s g) (512 * u + j) 0 ≡ getD s (512 * t + j) 0
     mended-byte d t u l is e j b =
         mended-moved s g p two d t u is e j b (directoryEntriesOf g) (omega arith) l (outside-others d u j l e b)
 

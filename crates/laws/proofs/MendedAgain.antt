@@ -93,7 +93,8 @@ module _ (s : List ℕ) (side : Side) (list : List ℕ) (n : ℕ) (e : mend s si
       byte-same : (j : ℕ) → j < 4 * entriesInUse g d → getD m (512 * u + j) 0 ≡ getD m (512 * t + j) 0
       byte-same j k =
           mended-byte s g placed two (apart s side list n e) d t u l a b j k
-          ∙ sym (good-bytes s g m placed two (apart s side list n e) (c .rest) d l t a (512 * t + j) (omega arith) (omega arith))
+          ∙ sym
+          (good-bytes s g m placed two (apart s side list n e) (c .rest) d l t a (512 * t + j) (omega arith) (omega arith))
 
       entry-same : (k : ℕ) → k < entriesInUse g d → entryAt m u k ≡ entryAt m t k
       entry-same k q =
