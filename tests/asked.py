@@ -3,7 +3,7 @@ import pathlib
 import struct
 import sys
 
-IMAGE, CHAIN, COLLAPSE, TEXT, FIND, LOOKUPS, FRAME, SURVEY, SPLIT, CHECK_IN = range(10)
+IMAGE, CHAIN, COLLAPSE, TEXT, FIND, LOOKUPS, FRAME, SURVEY, SPLIT, CHECK_IN, MEND = range(11)
 # The records of a list that is searched.
 SEARCHED = 32
 

@@ -44,6 +44,10 @@ answer! {
     Surveyed { number, place, stored, zero, absent, packed }
 }
 answer! {
+    /// How many entries differed, three words each in the list of changes: grain, old entry, new entry.
+    Mended { number, place, count }
+}
+answer! {
     /// The length, in bytes, of what was written.
     Written { number, place, length }
 }
@@ -97,6 +101,13 @@ extern "C" {
 }
 
 extern "C" {
+    pub fn anhkhovet_mend(
+        image: *mut u8,
+        length: usize,
+        good: u64,
+        changes: *mut u64,
+        changes_length: usize,
+    ) -> Mended;
     pub fn anhkhovet_normal(
         image: *const u8,
         length: usize,

@@ -10,6 +10,8 @@
 //! - [`lookup`] says where a sector comes from, [`chain`] the same for layers on top of each other, and [`read`] hands over
 //!   its bytes.
 //! - [`normal`] and [`collapse`] write an image into memory that is lent.
+//! - [`mend`] brings the tables of one directory in line with those of its copy, in the lent image, and [`changes`] tells what it
+//!   changed.
 //! - [`descriptor`] reads a descriptor text, and [`find`] says which extent holds a sector; [`split`] says where a sector of a disk of
 //!   several files comes from.
 //!
@@ -18,11 +20,12 @@
 //!
 //! # Stack
 //!
-//! Five calls keep a mark for each of some eight million sectors on the stack: [`check`], and [`survey`], [`normal`],
-//! [`collapse`] and [`split`], which check. A thread that makes one of them needs [`STACK`] bytes for it beside what it uses itself, or the process ends at the
-//! guard below its stack, with nothing overwritten. A main thread has 8 MiB unless `ulimit -s` says less, and a thread of
-//! Rust's 2 MiB unless it is asked for less. Every other call does with less than 16 KiB, and none of them calls itself: so
-//! [`check_in`], which is [`check`] with its marks in a list of the caller's, runs in a small fixed space.
+//! Six calls keep a mark for each of some eight million sectors on the stack: [`check`], and [`survey`], [`normal`],
+//! [`collapse`], [`split`] and [`mend`], which check. A thread that makes one of them needs [`STACK`] bytes for it beside what it
+//! uses itself, or the process ends at the guard below its stack, with nothing overwritten. A main thread has 8 MiB unless
+//! `ulimit -s` says less, and a thread of Rust's 2 MiB unless it is asked for less. Every other call does with less than 16 KiB,
+//! and none of them calls itself: so [`check_in`], which is [`check`] with its marks in a list of the caller's, runs in a small
+//! fixed space.
 //!
 //! # The archive
 //!
@@ -35,6 +38,7 @@ mod disks;
 mod face;
 mod images;
 mod marks;
+mod mending;
 pub mod raw;
 mod refusal;
 mod sectors;
@@ -46,6 +50,7 @@ pub use areas::{frame, Area, Group};
 pub use disks::{split, Placed, SplitRefusal};
 pub use images::{check, header, Disk, Header};
 pub use marks::{check_in, words_needed, Marked, MarkedRefusal};
+pub use mending::{changes, mend, Change, Side, CHANGE};
 pub use refusal::{ChainRefusal, Counted, Refusal};
 pub use sectors::{chain, lookup, read, read_part, Located, Source};
 pub use surveys::{survey, Counts, Survey, Tallied};

@@ -7,7 +7,8 @@
 use crate::face;
 
 pub use face::{
-    Described, Extent, Found, Framed, Head, Located, Marked, Part, Surveyed, Verdict, Written,
+    Described, Extent, Found, Framed, Head, Located, Marked, Mended, Part, Surveyed, Verdict,
+    Written,
 };
 
 /// The full check: refusals 1 to 12, or capacity and grain size.
@@ -82,6 +83,24 @@ pub fn survey(images: &[u8], lengths: &[u64], rows: &mut [u64], tally: &mut [u64
             rows.len(),
             tally.as_mut_ptr(),
             tally.len(),
+        )
+    }
+}
+
+/// Overwrites the entries in use of one directory's tables with those of the other's, in the lent image, if the image so changed
+/// would be accepted: refusals 1 to 8, 40, then 21 for the list. `good` is the side that stays: 0 the primary one, any other
+/// number the redundant one. Over the start of `changes` go three words for each entry that differed: grain, old entry, new entry.
+///
+/// On a refusal image and list keep what they held. It needs [`STACK`](crate::STACK) bytes of stack.
+pub fn mend(image: &mut [u8], good: u64, changes: &mut [u64]) -> Mended {
+    // SAFETY: see the top of the file.
+    unsafe {
+        face::anhkhovet_mend(
+            image.as_mut_ptr(),
+            image.len(),
+            good,
+            changes.as_mut_ptr(),
+            changes.len(),
         )
     }
 }

@@ -6,7 +6,8 @@ use std::fmt;
 /// A refusal by document 01's rules. Shown, it is its number, its place where that counts something, and a sentence.
 #[derive(Clone, Copy, Debug, PartialEq, Eq, Hash)]
 pub struct Refusal {
-    /// Document 01's number: 1 to 12 of an image, 20 to 24 and 27 of what is asked, 30 to 36 of a text, 38, 39 and 45 of an extent.
+    /// Document 01's number: 1 to 12 of an image, 20 to 24, 27 and 40 of what is asked, 30 to 36 of a text, 38, 39 and 45 of an
+    /// extent.
     pub number: u64,
     /// The grain or the line at fault, as [`Refusal::counted`] says, else 0.
     pub place: u64,
@@ -86,6 +87,10 @@ impl Refusal {
             36 => "the descriptor is longer than 65,536 bytes",
             38 => "the image's capacity is not the number of sectors of its extent",
             39 => "the extent is NOACCESS",
+            40 => {
+                "the image cannot be mended from that side: it has one directory only, its two directories name tables in \
+                 different places, header, footer, directories or tables share a sector, or it would still be refused"
+            }
             45 => "the file is not of its extent's type, or is too short for its sectors",
             _ => "a rule of the format is broken",
         }

@@ -34,6 +34,7 @@ examples! {
     frame "frame.rs"
     header "header.rs"
     lookup "lookup.rs"
+    mend "mend.rs"
     normal "normal.rs"
     read "read.rs"
     split "split.rs"

@@ -1,8 +1,8 @@
 //! Each call on a thread with the stack that the documentation states, and images that all of them go through to the end.
 
 use anhkhovet::{
-    chain, check, check_in, collapse, descriptor, find, frame, header, lookup, normal, raw, read,
-    split, survey, words_needed, STACK,
+    chain, check, check_in, collapse, descriptor, find, frame, header, lookup, mend, normal, raw,
+    read, split, survey, words_needed, Side, STACK,
 };
 use std::{fs, thread};
 
@@ -39,6 +39,20 @@ fn calls_that_check() {
     on(STACK, move || {
         assert!(normal(&lower, &mut out).is_ok());
         assert!(collapse(&lower, &upper, &mut out).is_ok());
+    });
+}
+
+#[test]
+fn mending() {
+    let sound = ["tool-base", "tool-packed"].map(sample);
+    on(STACK, move || {
+        for sound in &sound {
+            // Grain 1's entry in the redundant table.
+            let mut image = sound.clone();
+            image[22 * 512 + 4..22 * 512 + 8].fill(0);
+            assert_eq!(mend(&mut image, Side::Primary, &mut [0; 3]), Ok(1));
+            assert_eq!(&image, sound);
+        }
     });
 }
 

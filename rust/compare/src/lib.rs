@@ -1,5 +1,6 @@
 //! Compares two implementations of document 01 on generated inputs, call by call.
 
+mod answers;
 pub mod cases;
 mod dirty;
 mod disks;
@@ -8,7 +9,9 @@ mod frames;
 mod image;
 mod lists;
 pub mod marks;
+pub mod mends;
 mod ones;
+pub mod pairs;
 pub mod rng;
 pub mod run;
 pub mod side;

@@ -83,7 +83,7 @@ impl Run<'_> {
 }
 
 /// The entries in use of both directories; none of a redundant one where there is none. The image passed 8.
-fn directories(image: &[u8]) -> [Vec<u64>; 2] {
+pub fn directories(image: &[u8]) -> [Vec<u64>; 2] {
     let head = plain::header(image);
     let last = (head.capacity - 1) / (512 * head.grain_size);
     let footer = (image.len() as u64 / 512).saturating_sub(2) * 512;
@@ -115,7 +115,7 @@ fn has_grain_at_1(image: &[u8], directory: &[u64]) -> bool {
     })
 }
 
-fn number(image: &[u8], at: u64, size: usize) -> u64 {
+pub fn number(image: &[u8], at: u64, size: usize) -> u64 {
     let bytes = &image[at as usize..at as usize + size];
     let add = |value: u64, byte: &u8| value << 8 | u64::from(*byte);
     bytes.iter().rev().fold(0, add)

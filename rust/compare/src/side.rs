@@ -1,7 +1,8 @@
 //! The two sides behind one trait. Answers are the plain side's structs.
 
 use plain::{
-    Described, Extent, Found, Framed, Head, Located, Marked, Part, Surveyed, Verdict, Written,
+    Described, Extent, Found, Framed, Head, Located, Marked, Mended, Part, Surveyed, Verdict,
+    Written,
 };
 
 pub trait Side {
@@ -19,6 +20,7 @@ pub trait Side {
         rows: &mut [u64],
         tally: &mut [u64],
     ) -> Surveyed;
+    fn mend(&self, image: &mut [u8], good: u64, changes: &mut [u64]) -> Mended;
     fn normal(&self, image: &[u8], out: &mut [u8]) -> Written;
     fn collapse(&self, lower: &[u8], upper: &[u8], out: &mut [u8]) -> Written;
     fn descriptor(&self, text: &[u8], list: &mut [Extent]) -> Described;
@@ -59,6 +61,9 @@ impl Side for Plain {
         tally: &mut [u64],
     ) -> Surveyed {
         plain::survey(images, lengths, rows, tally)
+    }
+    fn mend(&self, image: &mut [u8], good: u64, changes: &mut [u64]) -> Mended {
+        plain::mend(image, good, changes)
     }
     fn normal(&self, image: &[u8], out: &mut [u8]) -> Written {
         plain::over(plain::normal(image, out.len()), out)
@@ -125,6 +130,9 @@ mod proved {
             tally: &mut [u64],
         ) -> Surveyed {
             same!(raw::survey(images, lengths, rows, tally) => Surveyed { number, place, stored, zero, absent, packed })
+        }
+        fn mend(&self, image: &mut [u8], good: u64, changes: &mut [u64]) -> Mended {
+            same!(raw::mend(image, good, changes) => Mended { number, place, count })
         }
         fn normal(&self, image: &[u8], out: &mut [u8]) -> Written {
             same!(raw::normal(image, out) => Written { number, place, length })

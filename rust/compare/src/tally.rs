@@ -1,5 +1,6 @@
 //! What was reached: a count for each call and each answer or refusal that it gave.
 
+use crate::answers::{gives, ANSWERS};
 use std::fmt::{self, Write};
 
 #[derive(Clone, Copy, Debug, PartialEq, Eq)]
@@ -12,6 +13,7 @@ pub enum Call {
     Read,
     Frame,
     Survey,
+    Mend,
     Normal,
     Collapse,
     Descriptor,
@@ -21,7 +23,7 @@ pub enum Call {
 
 use Call::*;
 
-const CALLS: [(Call, &str); 13] = [
+const CALLS: [(Call, &str); 14] = [
     (Check, "check"),
     (CheckIn, "check_in"),
     (Header, "header"),
@@ -30,6 +32,7 @@ const CALLS: [(Call, &str); 13] = [
     (Read, "read"),
     (Frame, "frame"),
     (Survey, "survey"),
+    (Mend, "mend"),
     (Normal, "normal"),
     (Collapse, "collapse"),
     (Descriptor, "descriptor"),
@@ -41,129 +44,6 @@ impl Call {
     /// All of them, in the table's order.
     pub fn all() -> Vec<Call> {
         CALLS.iter().map(|(call, _)| *call).collect()
-    }
-}
-
-/// The calls whose answers are counted by what the image's header has.
-const JUDGES: &[Call] = &[Check, CheckIn, Header, Frame, Survey];
-
-/// Kinds of answers, with the calls that can give them.
-const ANSWERS: [(&str, &[Call]); 84] = [
-    ("accepted KDMV", JUDGES),
-    ("accepted COWD", JUDGES),
-    ("accepted, footer", JUDGES),
-    ("accepted, redundant", JUDGES),
-    ("accepted, descriptor", JUDGES),
-    ("accepted, packed", JUDGES),
-    ("accepted, n above 1", JUDGES),
-    ("accepted, odd length", JUDGES),
-    // Request A2: what an entry of 1 is and names, and the refusals that it can lead to.
-    ("accepted, 1 is zeros", JUDGES),
-    ("accepted, 1 a sector", JUDGES),
-    ("accepted, table at 1", &[Check, CheckIn, Frame, Survey]),
-    ("accepted, copy at 1", &[Check, CheckIn, Frame, Survey]),
-    ("accepted, grain at 1", &[Check, CheckIn, Survey]),
-    ("5, flag 0x4 alone", JUDGES),
-    ("9, grain at 1", &[Check, CheckIn]),
-    ("11, zeros and absent", &[Check, CheckIn]),
-    ("11, zeros and a table", &[Check, CheckIn]),
-    ("11, 1 and absent", &[Check, CheckIn]),
-    ("11, 1 and a table", &[Check, CheckIn]),
-    ("12, 1 and 2", &[Check, CheckIn]),
-    ("12, entry 1", &[Check, CheckIn]),
-    ("absent", &[Lookup, Chain, Survey, Split]),
-    ("zero", &[Lookup, Chain, Survey, Split]),
-    ("stored", &[Lookup, Chain, Read, Survey, Split]),
-    ("packed", &[Lookup, Chain, Read, Survey, Split]),
-    ("stored at 1", &[Lookup, Chain, Read, Split]),
-    ("packed at 1", &[Lookup, Chain, Read, Split]),
-    ("under the top layer", &[Chain]),
-    ("empty part", &[Read]),
-    ("no table", &[Frame]),
-    ("refused by the check", &[Frame]),
-    ("image of no bytes", &[Survey]),
-    ("1,024 images", &[Survey]),
-    (
-        "written, exact room",
-        &[CheckIn, Frame, Survey, Normal, Collapse],
-    ),
-    (
-        "written, room left",
-        &[CheckIn, Frame, Survey, Normal, Collapse],
-    ),
-    ("written, grain at 1", &[Normal, Collapse]),
-    ("described", &[Descriptor]),
-    ("described, 32 extents", &[Descriptor]),
-    ("found", &[Find]),
-    // Request A4: by the type of the sector's own extent, and where two refusals would hold.
-    ("from FLAT", &[Split]),
-    ("from VMFS", &[Split]),
-    ("from SPARSE", &[Split]),
-    ("from VMFSSPARSE", &[Split]),
-    ("from ZERO", &[Split]),
-    ("from the 32nd extent", &[Split]),
-    ("45, short FLAT", &[Split]),
-    ("45, short VMFS", &[Split]),
-    ("45, COWD in SPARSE", &[Split]),
-    ("45, KDMV in VMFSSPARSE", &[Split]),
-    ("45, ZERO with bytes", &[Split]),
-    ("24, sum that wraps", &[Split]),
-    ("24, sector past", &[Split]),
-    ("1 to 12, 38 too", &[Split]),
-    // Request A5: what dirty images are answered, and where two refusals would hold.
-    ("accepted, dirty KDMV", JUDGES),
-    ("accepted, dirty footer", JUDGES),
-    ("accepted, dirty COWD", JUDGES),
-    ("accepted, low byte 0", JUDGES),
-    ("from a dirty image", &[Lookup, Chain, Read, Split]),
-    ("27, lower alone", &[Collapse]),
-    ("27, upper alone", &[Collapse]),
-    ("27, both", &[Collapse]),
-    ("27, other than 1", &[Normal, Collapse]),
-    ("27, 21 too", &[Normal, Collapse]),
-    ("27, room enough", &[Normal, Collapse]),
-    ("8 to 12, 27 too", &[Normal, Collapse]),
-    ("23, 27 too", &[Normal, Collapse]),
-    ("22, 27 too", &[Collapse]),
-    // Request A6: by the first area that meets an earlier one, by F and the list's length, and by what the list held.
-    ("12, directory", &[CheckIn]),
-    ("12, redundant", &[CheckIn]),
-    ("12, primary table", &[CheckIn]),
-    ("12, redundant table", &[CheckIn]),
-    ("12, footer", &[CheckIn]),
-    ("12, last sector", &[CheckIn]),
-    ("12, grain", &[CheckIn]),
-    ("all of F marked", &[CheckIn]),
-    ("exact, 64 divides F", &[CheckIn]),
-    ("exact, F is one more", &[CheckIn]),
-    ("short, 64 divides F", &[CheckIn]),
-    ("short, F is one more", &[CheckIn]),
-    ("21, else accepted", &[CheckIn]),
-    ("21, 12 too", &[CheckIn]),
-    ("9 to 11, 21 too", &[CheckIn]),
-    ("written, held zeros", &[CheckIn]),
-    ("written, held ones", &[CheckIn]),
-];
-
-/// The refusals of documents 01 and 02, with the calls that can give them, a survey in its rows too; 37 is the program's own.
-fn gives(number: u64, call: Call) -> bool {
-    match call {
-        Check => (1..=12).contains(&number),
-        CheckIn => (1..=12).contains(&number) || number == 21,
-        Header => (1..=7).contains(&number),
-        Lookup => (1..=10).contains(&number) || number == 20,
-        Chain => (1..=10).contains(&number) || [20, 22, 24].contains(&number),
-        Read => false,
-        Frame => (1..=8).contains(&number) || number == 21,
-        Survey => (1..=12).contains(&number) || [21, 24].contains(&number),
-        Normal => (1..=12).contains(&number) || [21, 23, 27].contains(&number),
-        Collapse => (1..=12).contains(&number) || [21, 22, 23, 27].contains(&number),
-        Descriptor => (30..=36).contains(&number) || number == 21,
-        Find => number == 20,
-        Split => {
-            let own = (1..=12).contains(&number) || [38, 39, 45].contains(&number);
-            own || (30..=36).contains(&number) || [20, 24].contains(&number)
-        }
     }
 }
 

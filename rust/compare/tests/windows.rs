@@ -2,7 +2,7 @@
 //! and a grain across the boundary. The memory is asked for as zeros, so that only what is touched takes room.
 #![cfg(feature = "proved")]
 
-use anhkhovet::raw::{check, check_in};
+use anhkhovet::raw::{check, check_in, mend};
 
 const WINDOW: u32 = 8_388_608;
 const GRAIN: u32 = 128;
@@ -81,4 +81,26 @@ fn a_lent_list_has_a_word_for_every_64_sectors_of_both_windows() {
 #[test]
 fn the_last_sector_of_a_window_and_the_first_of_the_next_are_two() {
     assert_eq!(refusal([WINDOW - GRAIN, WINDOW, 0, 0]), 0);
+}
+
+/// A redundant directory at sector 6, whose table from 7 on has the first grain alone.
+#[test]
+fn mending_looks_at_both_windows() {
+    let first = WINDOW + GRAIN;
+    for (last, number) in [(first + GRAIN - 1, 40), (first + GRAIN, 0)] {
+        let mut image = image([128, 0, first, last]);
+        for (at, number) in [(48, 6), (6 * 512, 7), (7 * 512, 128)] {
+            image[at] = number;
+        }
+        let mut list = [7; 7];
+        assert_eq!(mend(&mut image, 0, &mut list).number, number);
+        let (grain, new) = (7 * 512 + 8, u64::from(first));
+        if number == 0 {
+            assert_eq!(list, [2, 0, new, 3, 0, new + u64::from(GRAIN), 7]);
+            assert_eq!(image[grain..grain + 4], first.to_le_bytes());
+            assert_eq!(check(&image).number, 0);
+        } else {
+            assert_eq!((list, &image[grain..grain + 4]), ([7; 7], &[0; 4][..]));
+        }
+    }
 }

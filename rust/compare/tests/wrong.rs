@@ -1,7 +1,9 @@
 //! A side with one deliberate mistake must be caught, each of document 01's "mistakes to shut out" among them.
 
 mod dirty;
+mod frames;
 mod marks;
+mod mends;
 mod miscounts;
 mod ones;
 mod splits;
@@ -11,7 +13,8 @@ use compare::run::Run;
 use compare::side::{Plain, Side};
 use compare::tally::{Call, Tally};
 use plain::{
-    Described, Extent, Found, Framed, Head, Located, Marked, Part, Surveyed, Verdict, Written,
+    Described, Extent, Found, Framed, Head, Located, Marked, Mended, Part, Surveyed, Verdict,
+    Written,
 };
 use std::path::PathBuf;
 
@@ -32,10 +35,6 @@ enum Mistake {
     ZeroAsksTheParent,
     LengthsThatWrap,
     ShortPart,
-    RedundantAsPrimary,
-    CopiesJudged,
-    WordPastTheLast,
-    WordOnRefusal,
     LastGrainLeftOut,
     EntryAsOneGrain,
     RefusedInTotals,
@@ -55,12 +54,14 @@ enum Mistake {
     Split(splits::Mistake),
     Dirty(dirty::Mistake),
     Marks(marks::Mistake),
+    Frames(frames::Mistake),
+    Mends(mends::Mistake),
 }
 
 use Mistake::*;
 
 /// Those of this file.
-const ALL: [Mistake; 33] = [
+const ALL: [Mistake; 29] = [
     OverlapAccepted,
     PlaceOfFirstGrain,
     DescriptorNumbersSwapped,
@@ -74,10 +75,6 @@ const ALL: [Mistake; 33] = [
     ZeroAsksTheParent,
     LengthsThatWrap,
     ShortPart,
-    RedundantAsPrimary,
-    CopiesJudged,
-    WordPastTheLast,
-    WordOnRefusal,
     LastGrainLeftOut,
     EntryAsOneGrain,
     RefusedInTotals,
@@ -165,25 +162,10 @@ impl Side for Mistake {
     }
 
     fn frame(&self, image: &[u8], list: &mut [u64]) -> Framed {
-        if *self == CopiesJudged && Plain.check(image).number == 11 {
-            return Framed {
-                number: 11,
-                ..Framed::default()
-            };
+        match self {
+            Frames(mistake) => mistake.frame(image, list),
+            _ => Plain.frame(image, list),
         }
-        let framed = Plain.frame(image, list);
-        let end = 3 * framed.count as usize;
-        if *self == RedundantAsPrimary {
-            for area in list[..end].chunks_mut(3).filter(|area| area[0] == 6) {
-                area[0] = 5;
-            }
-        }
-        let past = framed.number == 0 && *self == WordPastTheLast;
-        let refused = framed.number == 21 && *self == WordOnRefusal;
-        if let (true, Some(word)) = (past || refused, list.get_mut(end)) {
-            *word = word.wrapping_add(1);
-        }
-        framed
     }
 
     fn survey(
@@ -194,6 +176,13 @@ impl Side for Mistake {
         tally: &mut [u64],
     ) -> Surveyed {
         self.survey_wrongly(images, lengths, rows, tally)
+    }
+
+    fn mend(&self, image: &mut [u8], good: u64, changes: &mut [u64]) -> Mended {
+        match self {
+            Mends(mistake) => mistake.mend(image, good, changes),
+            _ => Plain.mend(image, good, changes),
+        }
     }
 
     fn normal(&self, image: &[u8], out: &mut [u8]) -> Written {
@@ -265,6 +254,8 @@ fn each_mistake_is_caught() {
     let others = splits::ALL.map(Split).into_iter();
     let others = others.chain(dirty::ALL.map(Dirty));
     let others = others.chain(marks::ALL.map(Marks));
+    let others = others.chain(frames::ALL.map(Frames));
+    let others = others.chain(mends::ALL.iter().copied().map(Mends));
     for mistake in ALL.into_iter().chain(others) {
         // Few cases catch most, and as many as the gate runs the others.
         let caught = |count| {
@@ -288,4 +279,9 @@ fn sectors_marked_are_those_of_frame_and_lookups() {
         tally(Marks(marks::Mistake::Recounted), 50_000).differences,
         0
     );
+}
+
+#[test]
+fn mending_made_anew_agrees() {
+    assert_eq!(tally(Mends(mends::Mistake::Remade), 50_000).differences, 0);
 }

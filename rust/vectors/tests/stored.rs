@@ -20,7 +20,7 @@ fn stored_files() {
 #[test]
 fn small_input() {
     let input = std::fs::read(root().join("crates/cases/stdin")).unwrap();
-    assert!(input.len() <= 2_050_000, "{} bytes", input.len());
+    assert!(input.len() <= 2_250_000, "{} bytes", input.len());
 }
 
 /// The stored surveys have images of each refusal number of the check.
@@ -70,6 +70,7 @@ fn every_refusal() {
         ("chain", (0..=10).chain([20, 22, 24]).collect()),
         ("frame", (0..=8).chain([21]).collect()),
         ("survey", vec![0, 21, 24]),
+        ("mend", (0..=8).chain([21, 40]).collect()),
         (
             "normal",
             check.iter().copied().chain([21, 23, 27]).collect(),

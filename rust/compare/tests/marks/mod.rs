@@ -72,10 +72,10 @@ pub const ALL: [Mistake; 28] = [
 ];
 
 /// An area's group as the frame has it, 9 being a grain, its first sector and its sectors.
-type Area = (u64, u64, u64);
+pub type Area = (u64, u64, u64);
 
 /// Sectors marked: a bit each.
-type Marks = Vec<u64>;
+pub type Marks = Vec<u64>;
 
 impl Mistake {
     pub fn check_in(self, image: &[u8], list: &mut [u64]) -> Marked {
@@ -214,7 +214,7 @@ impl Mistake {
 }
 
 /// Marks areas up to the first that meets one before it, or what was marked already: the marks, and how many areas.
-fn mark(areas: &[Area], mut marks: Marks) -> (Marks, usize) {
+pub fn mark(areas: &[Area], mut marks: Marks) -> (Marks, usize) {
     for (number, (_, first, sectors)) in areas.iter().enumerate() {
         let those = *first as usize..(first + sectors) as usize;
         if those.clone().any(|sector| is_marked(&marks, sector)) {
@@ -255,7 +255,7 @@ fn interleaved(areas: Vec<Area>) -> Vec<Area> {
 }
 
 /// The areas of an image that was accepted or refused 12, by frame and lookup.
-fn areas(image: &[u8]) -> Vec<Area> {
+pub fn areas(image: &[u8]) -> Vec<Area> {
     let mut list = vec![0; 3 * 4096];
     let framed = Plain.frame(image, &mut list);
     let frame = list.chunks(3).take(framed.count as usize);

@@ -1,6 +1,6 @@
 //! The lines that the program prints for a case: a call and the numbers of its answer.
 
-use super::{Case, CHAIN, CHECK_IN, COLLAPSE, FIND, FRAME, IMAGE, SPLIT, SURVEY, TEXT};
+use super::{Case, CHAIN, CHECK_IN, COLLAPSE, FIND, FRAME, IMAGE, MEND, SPLIT, SURVEY, TEXT};
 use super::{MOST_ROWS, MOST_WORDS, SEARCHED, SHORT, SHORT_TALLY, TALLY};
 use crate::input::Input;
 use crate::numbers::{described, digest, extent, found, handed_over, line, located};
@@ -15,6 +15,7 @@ impl Case {
             FRAME => vec![self.frame_line()],
             SURVEY => self.survey_lines(),
             CHECK_IN => vec![self.check_in_line()],
+            MEND => vec![self.mend_line()],
             _ => Vec::new(),
         };
         for sector in &self.sectors {
@@ -86,13 +87,13 @@ impl Case {
     }
 
     /// The list of a call that takes one: each word is 170.
-    fn list(&self) -> Vec<u64> {
-        vec![170; MOST_WORDS.min(self.room as usize)]
+    fn list(&self, words: u64) -> Vec<u64> {
+        vec![170; MOST_WORDS.min(words as usize)]
     }
 
     /// The frame's answer, and the whole list.
     fn frame_line(&self) -> String {
-        let mut list = self.list();
+        let mut list = self.list(self.room);
         let f = plain::frame(&self.bytes, &mut list);
         let answer = line("frame ", &[f.number, f.place, f.count]);
         line(&answer, &list)
@@ -100,10 +101,19 @@ impl Case {
 
     /// The answer of the check in a list, and the whole list.
     fn check_in_line(&self) -> String {
-        let mut list = self.list();
+        let mut list = self.list(self.room);
         let m = plain::check_in(&self.bytes, &mut list);
         let answer = [m.number, m.place, m.capacity, m.grain_size, m.marked];
         line(&line("check_in ", &answer), &list)
+    }
+
+    /// The answer of mending, the digest of the whole image after it, and the whole list.
+    fn mend_line(&self) -> String {
+        let mut image = self.bytes[..self.room as usize].to_vec();
+        let mut list = self.list(self.lengths[1]);
+        let m = plain::mend(&mut image, self.lengths[0], &mut list);
+        let answer = [m.number, m.place, m.count, digest(&image)];
+        line(&line("mend ", &answer), &list)
     }
 
     /// The survey's answer and the whole list of rows, then the whole tally; all words were 170 before.

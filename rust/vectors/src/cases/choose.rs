@@ -1,13 +1,15 @@
 //! Which cases are stored: real images from samples, and generated ones that reach each answer of each call.
 
 use super::record::Recorder;
-use super::{Case, CHECK_IN, FIND, FRAME, IMAGE, SPLIT, SURVEY, TEXT};
+use super::{Case, CHECK_IN, FIND, FRAME, IMAGE, MEND, MOST_WORDS, SPLIT, SURVEY, TEXT};
 use compare::cases::case;
 use compare::marks::that_meets;
+use compare::mends::rows;
 use compare::rng::Rng;
 use compare::run::Run;
 use compare::side::Plain;
 use compare::tally::Call;
+use plain::Mended;
 use std::collections::BTreeMap;
 use std::io;
 use std::path::{Path, PathBuf};
@@ -83,7 +85,7 @@ fn wanted(case: &Case, answer: &str) -> u64 {
     let refused = !answer.contains(" 0 ");
     match (is_short(case), refused) {
         (true, _) => 15,
-        (false, _) if [SURVEY, SPLIT, CHECK_IN].contains(&case.asked) => 1,
+        (false, _) if [SURVEY, SPLIT, CHECK_IN, MEND].contains(&case.asked) => 1,
         (false, true) => 2,
         // By all its groups, by its dirty number, or at sector 1, one is enough.
         (false, false) if case.asked == FRAME || answer.ends_with("at 1") => 1,
@@ -114,11 +116,18 @@ fn is_short(case: &Case) -> bool {
 /// Whether a case is one for the program, and small enough to be stored.
 fn fits(case: &Case) -> bool {
     let most = if is_short(case) { 4 << 10 } else { 20 << 10 };
-    case.bytes.len() <= most && case.lengths.len() <= MOST_LAYERS && case.room <= MOST_ROOM
+    let short = case.lengths.len() <= MOST_LAYERS && case.room <= MOST_ROOM;
+    // The program lends no longer list.
+    let cut = case.asked == MEND && case.lengths[1] > MOST_WORDS as u64;
+    case.bytes.len() <= most && short && !cut
 }
 
-/// What kinds of answers a line has: a tally one for each refusal number, any other line one.
+/// What kinds of answers a line has: a tally one for each refusal number, mending one for each row of the comparison's table,
+/// any other line one.
 fn kinds(case: &Case, line: &str) -> Vec<String> {
+    if case.asked == MEND {
+        return mended(case, line);
+    }
     let counts = match line.strip_prefix("tally ") {
         Some(counts) => counts.split(' ').enumerate(),
         None => return vec![kind(case, line)],
@@ -195,4 +204,30 @@ fn marked(case: &Case, words: &[&str]) -> String {
         "21" => format!("{number} {}", plain::check(image).number),
         _ => format!("{number} {}", case.room > 0),
     }
+}
+
+/// The kinds of a mending's answer: its number, with the good side, and what is told of it.
+fn mended(case: &Case, line: &str) -> Vec<String> {
+    let mut words = line
+        .split(' ')
+        .skip(1)
+        .map(|word| word.parse().unwrap_or(0));
+    let [number, place, count] = [(); 3].map(|()| words.next().unwrap_or(0));
+    let answer = Mended {
+        number,
+        place,
+        count,
+    };
+    let (good, room) = (case.lengths[0], case.lengths[1] as usize);
+    let mut kinds = vec![format!("mend {number} {}", good != 0)];
+    if count > 0 {
+        let image = &case.bytes;
+        let zeros = image[4] > 1 && image[8] & 0x4 != 0;
+        let (packed, footer) = (image[77], image[56..64] == [255; 8]);
+        kinds.push(format!("mend {number} {packed} {footer} {zeros}"));
+    }
+    for row in rows(answer, &case.bytes, good, room) {
+        kinds.push(format!("mend {number} {row}"));
+    }
+    kinds
 }

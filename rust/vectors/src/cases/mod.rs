@@ -32,6 +32,9 @@ const SURVEY: u64 = 7;
 const SPLIT: u64 = 8;
 /// The check in a list of as many words as the room says, `MOST_WORDS` at most.
 const CHECK_IN: u64 = 9;
+/// Mending of a copy of the bytes, whose length is the room. The first length names the good side, and the list has as many words
+/// as the second says, `MOST_WORDS` at most.
+const MEND: u64 = 10;
 
 const SEARCHED: usize = 32;
 const MOST_WORDS: usize = 96;

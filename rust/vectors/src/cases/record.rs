@@ -1,13 +1,14 @@
 //! The generators of `compare`, listened to: a side that keeps what it is asked and answers as the plain one does.
 
 use super::{
-    Case, CHAIN, CHECK_IN, COLLAPSE, FIND, FRAME, IMAGE, SEARCHED, SHORT, SHORT_TALLY, SPLIT,
+    Case, CHAIN, CHECK_IN, COLLAPSE, FIND, FRAME, IMAGE, MEND, SEARCHED, SHORT, SHORT_TALLY, SPLIT,
     SURVEY, TEXT,
 };
 use crate::numbers::extent;
 use compare::side::{Plain, Side};
 use plain::{
-    Described, Extent, Found, Framed, Head, Located, Marked, Part, Surveyed, Verdict, Written,
+    Described, Extent, Found, Framed, Head, Located, Marked, Mended, Part, Surveyed, Verdict,
+    Written,
 };
 use std::cell::RefCell;
 
@@ -115,6 +116,16 @@ impl Side for Recorder {
             ..Case::default()
         });
         Plain.survey(images, lengths, rows, tally)
+    }
+    fn mend(&self, image: &mut [u8], good: u64, changes: &mut [u64]) -> Mended {
+        self.keep(Case {
+            asked: MEND,
+            lengths: vec![good, changes.len() as u64],
+            bytes: image.to_vec(),
+            room: image.len() as u64,
+            ..Case::default()
+        });
+        Plain.mend(image, good, changes)
     }
     fn normal(&self, image: &[u8], out: &mut [u8]) -> Written {
         self.lent(IMAGE, image, out.len());
