@@ -16,6 +16,7 @@ mod lookup;
 mod machine;
 mod map;
 mod marks;
+mod mend;
 mod qemu;
 mod report;
 mod side;
@@ -32,10 +33,11 @@ use std::process::exit;
 
 /// Inputs depend on it alone.
 const SEED: u64 = 7;
-const CALLS: [&str; 8] = [
+const CALLS: [&str; 9] = [
     "check",
     "marks",
     "copies",
+    "mend",
     "survey",
     "lookup",
     "chain",
@@ -136,6 +138,9 @@ fn run(quick: bool, calls: &[String]) -> Result<Report, Box<dyn Error>> {
     if wanted("copies") {
         copies::measure(&setup, &mut report)?;
     }
+    if wanted("mend") {
+        mend::measure(&setup, &mut report)?;
+    }
     if wanted("survey") {
         survey::measure(&setup, &inputs[2], &mut report)?;
     }
@@ -170,6 +175,7 @@ fn a_quick_run_has_rows_for_every_call() -> Outcome {
         "check",
         "check in a lent list",
         "check, two directories",
+        "mend",
         "survey",
         "lookup",
         "chain lookup",

@@ -3,7 +3,7 @@
 #[cfg(feature = "proved")]
 mod proved {
     use anhkhovet::raw;
-    use plain::{Described, Extent, Located, Marked, Surveyed, Verdict, Written};
+    use plain::{Described, Extent, Located, Marked, Mended, Surveyed, Verdict, Written};
 
     /// A struct of the one side from the other's, field by field.
     macro_rules! same {
@@ -19,6 +19,10 @@ mod proved {
 
     pub fn check_in(image: &[u8], list: &mut [u64]) -> Marked {
         same!(raw::check_in(image, list) => Marked { number, place, capacity, grain_size, marked })
+    }
+
+    pub fn mend(image: &mut [u8], good: u64, changes: &mut [u64]) -> Mended {
+        same!(raw::mend(image, good, changes) => Mended { number, place, count })
     }
 
     pub fn survey(images: &[u8], lengths: &[u64], rows: &mut [u64], tally: &mut [u64]) -> Surveyed {
@@ -49,7 +53,7 @@ mod proved {
 }
 
 #[cfg(feature = "proved")]
-pub use proved::{chain, check, check_in, collapse, describe, lookup, survey};
+pub use proved::{chain, check, check_in, collapse, describe, lookup, mend, survey};
 
 #[cfg(not(feature = "proved"))]
 mod stand_in {
@@ -66,6 +70,6 @@ mod stand_in {
 
 #[cfg(not(feature = "proved"))]
 pub use {
-    plain::{chain, check, check_in, lookup, survey},
+    plain::{chain, check, check_in, lookup, mend, survey},
     stand_in::{collapse, describe},
 };

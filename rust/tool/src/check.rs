@@ -3,7 +3,9 @@
 use crate::checked::checked;
 use crate::described::Opened;
 use crate::failure::{Failure, Status};
+use crate::hint::hinted;
 use crate::judged::Judged;
+use crate::layer::Layer;
 use crate::names::{name, put_name};
 use crate::print;
 use crate::progress::Progress;
@@ -22,11 +24,18 @@ fn one(path: &Path) -> Verdict {
     let judged = Opened::at(path).and_then(|opened| {
         let _progress = Progress::start(&format!("checking {}", name(path)), 0);
         match opened {
-            Opened::Image(file) => Ok(Verdict::Image(Judged::of(file, checked))),
+            Opened::Image(file) => Ok(Verdict::Image(judged(file))),
             Opened::Descriptor(disk) => Verdicts::of(disk).map(Verdict::Split),
         }
     });
     judged.unwrap_or_else(|failure| Verdict::Image(failure.into()))
+}
+
+/// The check of an image, with what could be done where it is refused.
+fn judged(file: Layer) -> Judged<Disk> {
+    let mut judged = Judged::of(file, checked);
+    judged.verdict = judged.verdict.map_err(hinted);
+    judged
 }
 
 impl Verdict {

@@ -2,7 +2,9 @@
 
 use crate::commands::command;
 use crate::list::Asked;
+use crate::mend;
 use crate::names;
+use anhkhovet::Side;
 use clap::error::ErrorKind;
 use clap::ArgMatches;
 use std::env;
@@ -27,6 +29,7 @@ pub enum Task {
     Compare(Vec<PathBuf>, Asked),
     Collapse(Vec<PathBuf>, Target),
     Normal(PathBuf, Target),
+    Mend(mend::Asked),
     Describe(PathBuf, Option<u64>),
 }
 
@@ -70,6 +73,15 @@ fn task(name: &str, given: &ArgMatches) -> Option<Task> {
         },
         "collapse" => Task::Collapse(files, target()?),
         "normal" => Task::Normal(files.into_iter().next()?, target()?),
+        "mend" => Task::Mend(mend::Asked {
+            file: files.into_iter().next()?,
+            good: match given.get_one::<String>("good")?.as_str() {
+                "primary" => Side::Primary,
+                _ => Side::Redundant,
+            },
+            target: target(),
+            all: given.get_flag("all"),
+        }),
         "describe" => Task::Describe(files.into_iter().next()?, sector()),
         _ => return None,
     })
@@ -88,13 +100,19 @@ fn misused(task: &Task) -> Option<&'static str> {
         Task::Sector(files, _) | Task::Read(files, ..) | Task::Compare(files, _) => files,
         Task::Collapse(files, _) => files,
         Task::Normal(file, _) => std::slice::from_ref(file),
+        Task::Mend(asked) => std::slice::from_ref(&asked.file),
         Task::Describe(..) => &[],
     };
-    match task {
-        _ if input.iter().any(|file| stream(file)) => Some(IMAGE_FROM_INPUT),
-        Task::Collapse(_, to) | Task::Normal(_, to) if stream(&to.path) => Some(IMAGE_TO_OUTPUT),
+    let output = match task {
+        Task::Collapse(_, to) | Task::Normal(_, to) => Some(to),
+        Task::Mend(asked) => asked.target.as_ref(),
         _ => None,
+    };
+    if input.iter().any(|file| stream(file)) {
+        return Some(IMAGE_FROM_INPUT);
     }
+    let unfit = output.map_or(false, |to| stream(&to.path));
+    unfit.then_some(IMAGE_TO_OUTPUT)
 }
 
 fn asked(words: &[OsString]) -> Result<(Task, bool), clap::Error> {

@@ -47,10 +47,13 @@ fn output(about: &'static str, required: bool) -> Arg {
 }
 
 fn force() -> Arg {
-    Arg::new("force")
-        .long("force")
-        .help("Replace OUT if it exists")
-        .requires("output")
+    flag("force", "Replace OUT if it exists").requires("output")
+}
+
+fn flag(name: &'static str, about: &'static str) -> Arg {
+    Arg::new(name)
+        .long(name)
+        .help(about)
         .action(ArgAction::SetTrue)
 }
 
@@ -72,7 +75,7 @@ pub fn command() -> Command {
                 .help("Answer with one JSON object")
                 .action(ArgAction::SetTrue),
         );
-    writing(describing(digesting(reading(judging(command)))))
+    mending(writing(describing(digesting(reading(judging(command))))))
 }
 
 fn judging(command: Command) -> Command {
@@ -121,12 +124,6 @@ fn digesting(command: Command) -> Command {
         .value_name("LIST")
         .help("Compare with the lines of LIST (sector, digest), - for standard input, and tell all that do not hold")
         .value_parser(value_parser!(PathBuf));
-    let flag = |name: &'static str, about: &'static str| {
-        Arg::new(name)
-            .long(name)
-            .help(about)
-            .action(ArgAction::SetTrue)
-    };
     command.subcommand(
         subcommand("digest")
             .about("Gives the SHA-256 digest of each sector, or compares with a list of them")
@@ -172,5 +169,23 @@ fn describing(command: Command) -> Command {
                     .long("sector")
                     .help("Also say which extent holds sector N"),
             ),
+    )
+}
+
+fn mending(command: Command) -> Command {
+    let good = Arg::new("good")
+        .long("good")
+        .value_name("SIDE")
+        .help("The directory whose tables are right")
+        .value_parser(["primary", "redundant"])
+        .required(true);
+    command.subcommand(
+        subcommand("mend")
+            .about("Says what changes where tables are mended from the other directory's, and writes an image so mended")
+            .arg(files("The image, which is only read").num_args(1))
+            .arg(good)
+            .arg(output("The file to write; without it nothing is written", false))
+            .arg(force())
+            .arg(flag("all", "List every change")),
     )
 }

@@ -4,7 +4,15 @@
 use crate::failure::Failure;
 use crate::frame::copy_parts;
 use crate::layer::Layer;
-use anhkhovet::{Source, SECTOR};
+use anhkhovet::{Area, SECTOR};
+use std::ops::Range;
+
+/// Bytes of an entry.
+const ENTRY: u64 = 4;
+
+/// The third byte of the flags, which has that for packed grains.
+const FLAGS: usize = 10;
+const PACKED: u8 = 1;
 
 /// Where the directory is, how many entries of it are in use, and how many a table has.
 struct Tables {
@@ -32,17 +40,17 @@ impl Tables {
 
     /// The sectors of each table that the directory names.
     fn parts(&self, own: &[u8]) -> Vec<(u64, u64)> {
-        let sectors = self.entries * 4 / SECTOR;
+        let sectors = self.entries * ENTRY / SECTOR;
         (0..self.used)
             .filter_map(|number| entry(own, self.directory, number))
             .map(|first| (first, first + sectors))
             .collect()
     }
 
-    /// The sector that a grain's entry names.
-    fn grain(&self, own: &[u8], grain: u64) -> Option<u64> {
+    /// Where a grain's entry is: its table's sector, and its number there.
+    fn grain(&self, own: &[u8], grain: u64) -> Option<(u64, u64)> {
         let table = entry(own, self.directory, grain / self.entries)?;
-        entry(own, table, grain % self.entries)
+        Some((table, grain % self.entries))
     }
 }
 
@@ -58,11 +66,32 @@ fn directory(own: &[u8]) -> Option<u64> {
     }
 }
 
-/// An entry, by its number, of what begins at a sector; nothing past the end.
+/// The bytes of an entry, by its number, of what begins at a sector; nothing past the end.
+fn place(own: &[u8], first: u64, number: u64) -> Option<Range<usize>> {
+    let at = first.checked_mul(SECTOR)?.checked_add(ENTRY * number)?;
+    let place = usize::try_from(at).ok()?..usize::try_from(at.checked_add(ENTRY)?).ok()?;
+    Some(place).filter(|place| place.end <= own.len())
+}
+
 fn entry(own: &[u8], first: u64, number: u64) -> Option<u64> {
-    let at = first.checked_mul(SECTOR)?.checked_add(4 * number)?;
-    let bytes = own.get(usize::try_from(at).ok()?..)?.get(..4)?;
+    let bytes = own.get(place(own, first, number)?)?;
     Some(u32::from_le_bytes(bytes.try_into().ok()?).into())
+}
+
+/// What `look` sees where a grain has another entry in the primary table, which keeps its own.
+pub fn with_entry<T>(
+    own: &mut [u8],
+    grain: u64,
+    entry: u64,
+    look: impl FnOnce(&[u8]) -> T,
+) -> Option<T> {
+    let (table, number) = Tables::of(own)?.grain(own, grain)?;
+    let place = place(own, table, number)?;
+    let kept = own[place.clone()].to_vec();
+    own[place.clone()].copy_from_slice(&u32::try_from(entry).ok()?.to_le_bytes());
+    let seen = look(own);
+    own[place].copy_from_slice(&kept);
+    Some(seen)
 }
 
 /// Copies directory and tables: what a lookup reads, also in an image that has no list of its frame.
@@ -78,36 +107,27 @@ pub fn copy_tables(layer: &Layer, own: &mut [u8]) -> Result<(), Failure> {
     copy_parts(layer, own, tables.parts(own))
 }
 
-/// Whether markers decide, in own bytes that lack them: there a packed grain is refused 10, and in no other image is one.
+/// Whether markers decide: by the flag of a KDMV image whose grains are packed. Elsewhere they are copied for nothing at most.
 pub fn packed(own: &[u8]) -> bool {
-    let disk = match anhkhovet::header(own) {
-        Ok(header) => header.disk,
-        Err(_) => return false,
-    };
-    (0..disk.capacity)
-        .step_by(disk.grain_size as usize)
-        .find_map(|sector| match anhkhovet::lookup(own, sector) {
-            Ok(Source::Stored { .. }) => Some(false),
-            Ok(Source::Packed { .. }) => Some(true),
-            Err(refusal) if refusal.number == 10 => Some(true),
-            _ => None,
-        })
-        .unwrap_or(false)
+    own.starts_with(b"KDMV") && own.get(FLAGS).map_or(false, |flags| flags & PACKED != 0)
 }
 
-/// Copies the markers of all grains.
-pub fn copy_markers(layer: &Layer, own: &mut [u8]) -> Result<(), Failure> {
-    let tables = match Tables::of(own) {
-        Some(tables) => tables,
-        None => return Ok(()),
-    };
-    (0..tables.used * tables.entries)
-        .try_for_each(|grain| copy_sector(layer, own, tables.grain(own, grain)))
+/// Copies the markers of all grains that these tables name.
+pub fn copy_markers<'a>(
+    layer: &Layer,
+    own: &mut [u8],
+    mut tables: impl Iterator<Item = &'a Area>,
+) -> Result<(), Failure> {
+    tables.try_for_each(|table| {
+        let mut entries = 0..table.sectors * SECTOR / ENTRY;
+        entries.try_for_each(|number| copy_sector(layer, own, entry(own, table.first, number)))
+    })
 }
 
 /// Copies the marker of one grain.
 pub fn copy_marker(layer: &Layer, own: &mut [u8], grain: u64) -> Result<(), Failure> {
-    let sector = Tables::of(own).and_then(|tables| tables.grain(own, grain));
+    let place = Tables::of(own).and_then(|tables| tables.grain(own, grain));
+    let sector = place.and_then(|(table, number)| entry(own, table, number));
     copy_sector(layer, own, sector)
 }
 

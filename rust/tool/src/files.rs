@@ -1,12 +1,13 @@
 //! The files of one command, as the library gets them: own bytes, several files end to end in one range, base first.
 
+use crate::alike::{disk, unlike};
 use crate::entries;
 use crate::failure::{Failure, Refusal};
 use crate::frame;
 use crate::layer::Layer;
-use crate::names::name;
+use crate::mended::NOT_MENDABLE;
 use crate::own::Own;
-use anhkhovet::{Area, ChainRefusal, Disk, Located};
+use anhkhovet::{Area, ChainRefusal, Disk, Group, Located, Side};
 use std::fs::File;
 use std::ops::Range;
 use std::path::{Path, PathBuf};
@@ -29,9 +30,25 @@ struct Part {
     frame: Vec<Area>,
     /// The frame is refused 8: a lookup may have an answer all the same, and then reads more than was copied.
     broken: bool,
-    /// The markers of packed grains are copied.
-    marked: bool,
+    /// The tables whose packed grains have their markers copied.
+    marked: &'static [Group],
 }
+
+/// Refusals that may be for want of markers, and the tables that name the grains.
+struct Unsure {
+    numbers: &'static [u64],
+    tables: &'static [Group],
+}
+
+/// Lookups and the check go by the primary tables alone.
+const CHECK: Unsure = Unsure {
+    numbers: &[9, 10],
+    tables: &[Group::PrimaryTable],
+};
+const MEND: Unsure = Unsure {
+    numbers: &[NOT_MENDABLE],
+    tables: &[Group::PrimaryTable, Group::RedundantTable],
+};
 
 impl Layers {
     pub fn open(paths: &[PathBuf]) -> Result<Layers, Failure> {
@@ -80,7 +97,7 @@ impl Layers {
                 bytes: start as usize..total as usize,
                 frame: Vec::new(),
                 broken: false,
-                marked: false,
+                marked: &[],
             });
         }
         let own = Own::new(total as usize).map_err(|error| {
@@ -122,6 +139,11 @@ impl Layers {
         &self.own.bytes()[self.parts[layer as usize].bytes.clone()]
     }
 
+    /// The same, to be looked at with something changed.
+    pub fn bytes_mut(&mut self, layer: u64) -> &mut [u8] {
+        &mut self.own.bytes_mut()[self.parts[layer as usize].bytes.clone()]
+    }
+
     /// The areas of one layer that are copied; none where the check refuses the layer with 1 to 8.
     pub fn frame(&self, layer: u64) -> &[Area] {
         &self.parts[layer as usize].frame
@@ -149,16 +171,36 @@ impl Layers {
         layer: u64,
         call: impl Fn(&[u8]) -> Result<T, anhkhovet::Refusal>,
     ) -> Result<Result<T, anhkhovet::Refusal>, Failure> {
-        let answer = call(self.bytes(layer));
+        self.sure(layer, CHECK, |own| call(own))
+    }
+
+    /// Mends the own bytes of the only layer, and says how many entries differed: their changes are in the list.
+    pub fn mend(
+        &mut self,
+        good: Side,
+        list: &mut [u64],
+    ) -> Result<Result<u64, anhkhovet::Refusal>, Failure> {
+        self.sure(0, MEND, |own| anhkhovet::mend(own, good, list))
+    }
+
+    fn sure<T>(
+        &mut self,
+        layer: u64,
+        unsure: Unsure,
+        mut call: impl FnMut(&mut [u8]) -> Result<T, anhkhovet::Refusal>,
+    ) -> Result<Result<T, anhkhovet::Refusal>, Failure> {
         let part = &mut self.parts[layer as usize];
         let own = &mut self.own.bytes_mut()[part.bytes.clone()];
-        let unsure = matches!(&answer, Err(refusal) if matches!(refusal.number, 9 | 10));
-        if !unsure || part.marked || !entries::packed(own) {
+        let answer = call(own);
+        let wanting = matches!(&answer, Err(refusal) if unsure.numbers.contains(&refusal.number));
+        if !wanting || part.marked == unsure.tables || !entries::packed(own) {
             return Ok(answer);
         }
-        entries::copy_markers(&self.files[layer as usize], own)?;
-        part.marked = true;
-        Ok(call(self.bytes(layer)))
+        let named = |area: &&Area| unsure.tables.contains(&area.group);
+        let tables = part.frame.iter().filter(named);
+        entries::copy_markers(&self.files[layer as usize], own, tables)?;
+        part.marked = unsure.tables;
+        Ok(call(own))
     }
 
     /// Where a sector comes from, or the refusal.
@@ -240,30 +282,4 @@ impl Layers {
 
 pub fn same(files: &[Arc<Layer>]) -> Result<(), Failure> {
     files.iter().try_for_each(|file| file.same())
-}
-
-fn disk(image: &[u8]) -> Result<Disk, anhkhovet::Refusal> {
-    Ok(anhkhovet::header(image)?.disk)
-}
-
-/// The first image whose capacity or grain size is not the base's, beside the base.
-pub fn unlike(images: &[(&Path, &[u8])]) -> String {
-    let told = |(path, disk): (&Path, Disk)| {
-        format!(
-            "{} has capacity {} and grain size {}",
-            name(path),
-            disk.capacity,
-            disk.grain_size
-        )
-    };
-    let mut all = images
-        .iter()
-        .filter_map(|(path, bytes)| Some((*path, disk(bytes).ok()?)));
-    match all.next() {
-        Some(base) => match all.find(|(_, other)| *other != base.1) {
-            Some(other) => format!("{}, {}", told(base), told(other)),
-            None => told(base),
-        },
-        None => String::new(),
-    }
 }

@@ -6,9 +6,9 @@ use crate::files::{Files, Layers};
 use crate::grains::Grains;
 use crate::hash::Place;
 use crate::json::Object;
-use crate::names::{self, name};
+use crate::names;
 use crate::split::Split;
-use crate::still_open::{still_open, OpenImages};
+use crate::still_open::OpenImages;
 use anhkhovet::Located;
 use std::path::{Path, PathBuf};
 
@@ -60,14 +60,10 @@ impl Given {
     }
 
     pub fn open_images(&self) -> OpenImages {
-        let layers = match self {
-            Given::Layers(layers) => layers,
-            Given::Split(split) => return split.open_images(),
-        };
-        let open = |layer: &u64| still_open(layers.bytes(*layer)) == Some(true);
-        let open = (0..layers.count() as u64).filter(open);
-        let paths = open.map(|layer| layers.path(layer));
-        OpenImages::of(paths.map(|path| (name(path), path.to_path_buf())))
+        match self {
+            Given::Layers(layers) => OpenImages::of_layers(layers),
+            Given::Split(split) => split.open_images(),
+        }
     }
 
     /// The paths of all that is read, or belongs to what is read.

@@ -1,4 +1,4 @@
-//! What helps on after a refusal: a descriptor is no image.
+//! What helps on after a refusal: a descriptor is no image, and copies that differ can be mended.
 
 use crate::described::{Described, Opened};
 use crate::failure::{Failure, Refusal};
@@ -8,17 +8,35 @@ use std::path::Path;
 
 const DESCRIPTOR: &str = "it is a descriptor, which `anhkhovet describe` reads";
 
-/// A refusal of a descriptor that is handed in where single images are taken, with what could be handed in instead.
-pub fn hinted(mut failure: Failure) -> Failure {
-    if let Failure::Refused(Refusal {
-        why: anhkhovet::Refusal { number: 2, .. },
-        file: Some(file),
-        detail,
-    }) = &mut failure
-    {
-        *detail = hint(file);
+const COPIES: &str =
+    "`anhkhovet mend` lists the entries of tables that differ, and mends one side from the other in a copy";
+
+/// A refusal with what could be done instead, where that is known: of a descriptor that is handed in where single images are
+/// taken, and of an image whose two directories or their tables differ.
+pub fn hinted(failure: Failure) -> Failure {
+    match failure {
+        Failure::Refused(refusal) => Failure::Refused(detailed(refusal)),
+        Failure::Extent(descriptor, extent, failure) => {
+            Failure::Extent(descriptor, extent, Box::new(hinted(*failure)))
+        }
+        failure => failure,
     }
-    failure
+}
+
+fn detailed(mut refusal: Refusal) -> Refusal {
+    let hint = match (refusal.why.number, &refusal.file) {
+        (2, Some(file)) => hint(file),
+        (11, _) => COPIES.to_string(),
+        _ => String::new(),
+    };
+    let parts = [refusal.detail, hint];
+    let parts: Vec<&str> = parts
+        .iter()
+        .map(String::as_str)
+        .filter(|part| !part.is_empty())
+        .collect();
+    refusal.detail = parts.join("; ");
+    refusal
 }
 
 /// Nothing where the file is no descriptor.

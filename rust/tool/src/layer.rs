@@ -123,28 +123,45 @@ impl Layer {
             })
     }
 
-    /// The same over bytes that are zero: holes are left out, so that they cost nothing.
+    /// The same over bytes that are zero: holes in what is long are left out, so that they cost nothing.
     pub fn copy(&self, at: u64, to: &mut [u8]) -> Result<(), Failure> {
         if to.len() <= SHORT {
             return self.read(at, to);
         }
-        let end = at + to.len() as u64;
-        let mut from = at;
-        while from < end {
-            let data = match self.seek(from, libc::SEEK_DATA) {
-                Ok(data) => data.min(end),
-                Err(error) if error.raw_os_error() == Some(libc::ENXIO) => end,
-                // A file system that knows no holes.
-                Err(_) => from,
-            };
-            let hole = match self.seek(data, libc::SEEK_HOLE) {
-                Ok(hole) if hole > data => hole.min(end),
-                _ => end,
-            };
-            self.read(data, &mut to[(data - at) as usize..(hole - at) as usize])?;
-            from = hole;
+        self.copy_data(at, to)
+    }
+
+    /// The same with all holes left out.
+    pub fn copy_data(&self, at: u64, to: &mut [u8]) -> Result<(), Failure> {
+        for data in self.data(at..at + to.len() as u64) {
+            let part = (data.start - at) as usize..(data.end - at) as usize;
+            self.read(data.start, &mut to[part])?;
         }
         Ok(())
+    }
+
+    /// The parts of a part that are no holes, in order.
+    pub fn data(&self, part: Range<u64>) -> impl Iterator<Item = Range<u64>> + '_ {
+        let Range { start: mut at, end } = part;
+        std::iter::from_fn(move || {
+            let data = self.next_data(at..end);
+            at = data.end;
+            Some(data).filter(|data| !data.is_empty())
+        })
+    }
+
+    fn next_data(&self, part: Range<u64>) -> Range<u64> {
+        let end = part.end;
+        let data = match self.seek(part.start, libc::SEEK_DATA) {
+            Ok(data) => data.min(end),
+            Err(error) if error.raw_os_error() == Some(libc::ENXIO) => end,
+            // A file system that knows no holes.
+            Err(_) => part.start,
+        };
+        match self.seek(data, libc::SEEK_HOLE) {
+            Ok(hole) if hole > data => data..hole.min(end),
+            _ => data..end,
+        }
     }
 
     fn seek(&self, at: u64, to: libc::c_int) -> io::Result<u64> {

@@ -2,16 +2,20 @@
 //!
 //! The library is lent memory of the tool's own, into which what decides is copied, and the tool tells its answers.
 
+mod alike;
 mod batch;
 mod beside;
+mod changes;
 mod check;
 mod checked;
 mod cli;
 mod commands;
+mod copied;
 mod cores;
 mod describe;
 mod described;
 mod difference;
+mod differing;
 mod digest;
 mod entries;
 mod failure;
@@ -33,6 +37,8 @@ mod list;
 mod map;
 mod mapping;
 mod member;
+mod mend;
+mod mended;
 mod named;
 mod names;
 mod output;
@@ -50,6 +56,7 @@ mod streams;
 mod survey;
 mod table;
 mod text;
+mod unmendable;
 mod verdicts;
 mod worker;
 mod write;
@@ -70,6 +77,7 @@ fn run(task: Task, json: bool) -> Result<(), Failure> {
         Task::Compare(files, asked) => list::compare(&files, &asked, json),
         Task::Collapse(files, target) => write::collapse(&files, &target, json),
         Task::Normal(file, target) => write::normal(&file, &target, json),
+        Task::Mend(asked) => mend::mend(&asked, json),
         Task::Describe(file, sector) => describe::describe(&file, sector, json),
     }
 }

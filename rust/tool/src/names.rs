@@ -109,13 +109,13 @@ pub fn put_name(object: &mut Value, key: &str, path: &Path) {
     put_bytes(object, key, path.as_os_str().as_bytes());
 }
 
-/// The members `file` and, where the name is not UTF-8, `file_bytes`.
-pub fn file(object: &mut Object, path: &Path) -> Result<(), Failure> {
+/// The member for a name and, where that is not UTF-8, the one with `_bytes`.
+pub fn member(object: &mut Object, key: &str, path: &Path) -> Result<(), Failure> {
     let name = path.as_os_str().as_bytes();
-    object.member("file", &string(name))?;
+    object.member(key, &string(name))?;
     match str::from_utf8(name) {
         Ok(_) => Ok(()),
-        Err(_) => object.member("file_bytes", &hex(name)),
+        Err(_) => object.member(&format!("{key}_bytes"), &hex(name)),
     }
 }
 

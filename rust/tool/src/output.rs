@@ -12,8 +12,11 @@ use std::ffi::CString;
 use std::fs::File;
 use std::io::{self, Write};
 use std::mem::zeroed;
+use std::ops::Range;
+use std::os::unix::fs::FileExt;
 use std::os::unix::io::AsRawFd;
 use std::path::PathBuf;
+use std::slice;
 
 const UNWRITTEN: &str = "cannot be written, so there is no output";
 
@@ -70,16 +73,41 @@ impl Output {
 
     /// Gives it this length, and room on the disk where the file system can promise that.
     pub fn reserve(&self, length: u64) -> Result<(), Failure> {
+        self.reserve_parts(length, slice::from_ref(&(0..length)))
+    }
+
+    /// The same with room for some parts alone: what is between them is going to be holes.
+    pub fn reserve_parts(&self, length: u64, parts: &[Range<u64>]) -> Result<(), Failure> {
         let path = &self.place.path;
-        reserve(&self.file, length).map_err(|error| match error.raw_os_error() {
+        let needed = parts.iter().map(|part| part.end - part.start).sum();
+        reserve(&self.file, length, parts, needed).map_err(|error| match error.raw_os_error() {
             Some(libc::ENOSPC | libc::EDQUOT) => Failure::unfit(
                 path,
                 format!(
-                    "the disk is full: it has no room for {length} bytes, so there is no output"
+                    "the disk is full: it has no room for {needed} bytes, so there is no output"
                 ),
             ),
             _ => Failure::System(path.clone(), UNWRITTEN, error),
         })
+    }
+
+    /// Bytes to their place in what was reserved.
+    pub fn put(&self, at: u64, bytes: &[u8]) -> Result<(), Failure> {
+        self.file
+            .write_all_at(bytes, at)
+            .map_err(Failure::system(&self.place.path, UNWRITTEN))
+    }
+
+    /// The same unless they are there already, so that a hole stays one.
+    pub fn settle(&self, at: u64, bytes: &[u8]) -> Result<(), Failure> {
+        let mut there = vec![0; bytes.len()];
+        self.file
+            .read_exact_at(&mut there, at)
+            .map_err(Failure::system(&self.place.path, UNWRITTEN))?;
+        if there == bytes {
+            return Ok(());
+        }
+        self.put(at, bytes)
     }
 
     /// As memory, of the length that it has.
@@ -171,20 +199,24 @@ fn begin(place: &Place, mode: u32) -> io::Result<(File, CString, Doomed)> {
     }
 }
 
-fn reserve(file: &File, length: u64) -> io::Result<()> {
-    let long = libc::off_t::try_from(length).map_err(|_| io::ErrorKind::InvalidInput)?;
-    if free(file).map_or(false, |free| free < length) {
+fn reserve(file: &File, length: u64, parts: &[Range<u64>], needed: u64) -> io::Result<()> {
+    if free(file).map_or(false, |free| free < needed) {
         return Err(io::Error::from_raw_os_error(libc::ENOSPC));
     }
-    // SAFETY: a plain call on an open file.
-    if unsafe { libc::fallocate(file.as_raw_fd(), 0, 0, long) } == 0 {
-        return Ok(());
+    file.set_len(length)?;
+    for part in parts {
+        let (start, long) = (part.start, part.end - part.start);
+        // SAFETY: a plain call on an open file, inside of its length.
+        let status = unsafe { libc::fallocate(file.as_raw_fd(), 0, start as _, long as _) };
+        if status != 0 {
+            let error = io::Error::last_os_error();
+            return match error.raw_os_error() {
+                Some(libc::EOPNOTSUPP | libc::ENOSYS) => Ok(()),
+                _ => Err(error),
+            };
+        }
     }
-    let error = io::Error::last_os_error();
-    match error.raw_os_error() {
-        Some(libc::EOPNOTSUPP | libc::ENOSYS) => file.set_len(length),
-        _ => Err(error),
-    }
+    Ok(())
 }
 
 /// The bytes that are free, where the file system knows. Asking for more would take all of them for a moment, from everybody.

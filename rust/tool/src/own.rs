@@ -53,8 +53,13 @@ impl Own {
     }
 
     /// The same as whole words.
-    pub fn words_mut(&mut self) -> &mut [u64] {
+    pub fn words(&self) -> &[u64] {
         // SAFETY: as above, and memory begins at a page.
+        unsafe { slice::from_raw_parts(self.start as *const u64, self.length / 8) }
+    }
+
+    pub fn words_mut(&mut self) -> &mut [u64] {
+        // SAFETY: as above.
         unsafe { slice::from_raw_parts_mut(self.start as *mut u64, self.length / 8) }
     }
 }

@@ -178,7 +178,7 @@ impl Split {
         };
         let extents: Vec<Value> = self.members.iter().map(extent).collect();
         object.member("extents", &extents)?;
-        names::file(object, &self.disk.file.path)
+        names::member(object, "file", &self.disk.file.path)
     }
 }
 

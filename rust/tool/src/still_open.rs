@@ -1,6 +1,7 @@
 //! Images whose disk was still open when they were copied. Every answer is what it would be else, and this is told beside it.
 
-use crate::names::listed;
+use crate::files::Layers;
+use crate::names::{listed, name};
 use crate::print;
 use anhkhovet::Refusal;
 use serde_json::{json, Value};
@@ -38,6 +39,13 @@ pub struct OpenImages(Vec<(String, PathBuf)>);
 impl OpenImages {
     pub fn of(images: impl Iterator<Item = (String, PathBuf)>) -> OpenImages {
         OpenImages(images.collect())
+    }
+
+    pub fn of_layers(layers: &Layers) -> OpenImages {
+        let open = |layer: &u64| still_open(layers.bytes(*layer)) == Some(true);
+        let open = (0..layers.count() as u64).filter(open);
+        let paths = open.map(|layer| layers.path(layer));
+        OpenImages::of(paths.map(|path| (name(path), path.to_path_buf())))
     }
 
     /// A line for each on standard error: what stands on standard output is the same as without it.

@@ -4,6 +4,7 @@ use crate::described::Described;
 use crate::failure::{Failure, Status};
 use crate::files::same;
 use crate::grains::Grains;
+use crate::hint::hinted;
 use crate::judged::Judged;
 use crate::member::Member;
 use crate::names::name;
@@ -39,7 +40,8 @@ fn verdict(disk: &Described, (number, extent): (usize, Extent)) -> Verdict {
         }
         Err(failure) => (Err(failure), None),
     };
-    Judged::new(size.map_err(disk.blamed(number)), open)
+    let size = size.map_err(disk.blamed(number)).map_err(hinted);
+    Judged::new(size, open)
 }
 
 fn told(judged: &Verdict) -> String {

@@ -2,9 +2,10 @@
 //!
 //! Every refusal is found on the tool's own bytes, before anything is written; then grains are copied from the files.
 
+use crate::alike::unlike;
 use crate::cli::Target;
 use crate::failure::{Failure, Refusal, Status};
-use crate::files::{unlike, Layers};
+use crate::files::Layers;
 use crate::lent::{self, Lent};
 use crate::names::{name, put_name};
 use crate::output::{Mapped, Output};
@@ -19,7 +20,7 @@ use std::path::{Path, PathBuf};
 const NO_ROOM: u64 = 21;
 
 /// Why images are refused, asked with no output at all.
-fn refusal(asked: Result<u64, anhkhovet::Refusal>) -> Option<anhkhovet::Refusal> {
+pub fn refusal(asked: Result<u64, anhkhovet::Refusal>) -> Option<anhkhovet::Refusal> {
     asked.err().filter(|why| why.number != NO_ROOM)
 }
 

@@ -6,12 +6,15 @@ mod common;
 mod held;
 #[path = "common/image.rs"]
 mod image;
+#[path = "common/mends.rs"]
+mod mends;
 
 use common::{run, tool, Folder, Ran};
-use held::{hold, signal};
+use held::{begun, hold, signal};
 use image::{Image, GRAIN};
 use std::fs::{self, File};
 use std::os::unix::io::AsRawFd;
+use std::thread::yield_now;
 use std::{ptr, slice};
 
 const CAPACITY: u64 = 1 << 18;
@@ -69,9 +72,11 @@ fn turned(folder: &Folder, words: &[&str], table: &mut Table) -> Ran {
     ran
 }
 
-fn holds(words: &[&str]) {
+/// So many bytes of the grains are no holes: a copy of holes takes no time, and could not be held.
+fn holds(words: &[&str], data: usize) {
     let folder = Folder::in_memory();
-    let disk = Image::full(&folder.at("disk"), CAPACITY);
+    let disk = Image::twofold(&folder.at("disk"), CAPACITY).filled();
+    disk.put(512 * disk.start, &vec![7; data]);
     Image::new(&folder.at("delta"), CAPACITY);
     run(folder.path(), &[words, &["-o", "right"]].concat()).well();
     let right = fs::read(folder.at("right")).expect("the output");
@@ -96,10 +101,68 @@ fn holds(words: &[&str]) {
 
 #[test]
 fn normal() {
-    holds(&["normal", "disk"]);
+    holds(&["normal", "disk"], 0);
+}
+
+#[test]
+fn mend() {
+    holds(&["mend", "disk", "--good", "primary"], 1 << 26);
+}
+
+/// An image with a packed grain that stands far behind in the file, so that it is copied last; and that grain, mapped.
+fn packed(folder: &Folder) -> Table {
+    let far = 1 << 26;
+    let mut image = mends::Image::of(folder, "tool-packed.vmdk");
+    let grain = image.0[65536..65536 + 512].to_vec();
+    image.0.resize(far, 7);
+    image.0.extend(grain);
+    image.0.resize(far + 2 * PAGE as usize, 7);
+    for table in mends::TABLES {
+        image.entry(table, 1, (far / 512) as u32);
+    }
+    image.save(folder, "disk");
+    let disk = File::options()
+        .read(true)
+        .write(true)
+        .open(folder.at("disk"));
+    Table::new(&disk.expect("the image"), far as u64)
+}
+
+/// Whether an output has its length, which it gets once the image is judged.
+fn judged(folder: &Folder) -> bool {
+    let parts = folder
+        .names()
+        .into_iter()
+        .find(|name| name.ends_with(".part"));
+    let facts = parts.and_then(|part| fs::metadata(folder.at(&part)).ok());
+    facts.map_or(true, |facts| facts.len() > 0)
+}
+
+/// The marker of a packed grain decides too.
+#[test]
+fn mend_of_packed_grains() {
+    let folder = Folder::in_memory().with(&["tool-packed.vmdk"]);
+    let mut grain = packed(&folder);
+    let bytes = grain.bytes().to_vec();
+    for _ in 0..5 {
+        grain.bytes().copy_from_slice(&bytes);
+        let words = ["mend", "disk", "--good", "primary", "-o", "out"];
+        let mut child = begun(folder.path(), tool(folder.path()).args(words));
+        while !judged(&folder) && child.try_wait().expect("a child").is_none() {
+            yield_now();
+        }
+        grain.bytes().fill(0);
+        let ran = Ran::of(child.wait_with_output().expect("it ends"));
+        if ran.status == Some(0) {
+            run(folder.path(), &["check", "out"]).well();
+            fs::remove_file(folder.at("out")).expect("removed");
+        } else {
+            ran.ill("disk: the file changed while it was read");
+        }
+    }
 }
 
 #[test]
 fn collapse() {
-    holds(&["collapse", "disk", "delta"]);
+    holds(&["collapse", "disk", "delta"], 0);
 }

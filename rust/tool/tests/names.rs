@@ -160,6 +160,10 @@ fn in_json_a_name_is_itself_or_its_bytes_stand_beside_it() {
         let out = [b"out-", name].concat();
         let written = object(&[b"normal", b"--json", b"tool-base.vmdk", b"-o", &out]);
         assert_eq!(name_of(&written, "output"), out);
+        let out = [b"mended-", name].concat();
+        let mended = object(&[b"mend", b"--good=primary", b"--json", name, b"-o", &out]);
+        assert_eq!(name_of(&mended, "file"), name);
+        assert_eq!(name_of(&mended, "output"), out);
     }
 }
 
@@ -178,7 +182,7 @@ fn nothing_comes_through(folder: &Folder, words: &[&[u8]]) {
 fn no_command_hands_a_name_on_as_it_is() {
     let folder = folder();
     for name in ODD {
-        let sentences: [&[&[u8]]; 9] = [
+        let sentences: [&[&[u8]]; 10] = [
             &[b"survey", name],
             &[b"sector", name, b"2"],
             &[b"sector", name, b"9999"],
@@ -186,6 +190,7 @@ fn no_command_hands_a_name_on_as_it_is() {
             &[b"digest", b"tool-base.vmdk", b"--list", name],
             &[b"read", b"tool-base.vmdk", b"2", b"-o", name],
             &[b"normal", b"tool-base.vmdk", b"-o", name, b"--force"],
+            &[b"mend", name, b"--good", b"primary", b"-o", name],
             &[b"collapse", b"tool-packed.vmdk", name, b"-o", b"none"],
             &[b"describe", name, b"--sector", b"2048"],
         ];

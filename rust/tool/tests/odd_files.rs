@@ -20,6 +20,8 @@ fn readers(odd: &str) -> Vec<Vec<&str>> {
         vec!["digest", odd, "--list", "list"],
         vec!["describe", odd],
         vec!["normal", odd, "-o", "out"],
+        vec!["mend", odd, "--good", "primary"],
+        vec!["mend", odd, "--good", "primary", "-o", "out"],
         vec!["collapse", odd, IMAGE, "-o", "out"],
         vec!["collapse", IMAGE, odd, "-o", "out"],
         vec!["collapse", IMAGE, IMAGE, odd, "-o", "out"],

@@ -17,13 +17,14 @@ use std::process::{Child, Stdio};
 use std::thread::sleep;
 use std::time::{Duration, Instant};
 
-const COMMANDS: [&[&str]; 8] = [
+const COMMANDS: [&[&str]; 9] = [
     &["check", "it"],
     &["sector", "it", "0"],
     &["read", "it", "0"],
     &["map", "it"],
     &["digest", "it"],
     &["normal", "it", "-o", "out"],
+    &["mend", "it", "--good", "primary", "-o", "out"],
     &["collapse", "it", "it", "-o", "out"],
     &["describe", "it"],
 ];

@@ -19,6 +19,7 @@ fn writers() -> Vec<Vec<&'static str>> {
     vec![
         vec!["read", "tool-base.vmdk", "2", "-o"],
         vec!["normal", "tool-base.vmdk", "-o"],
+        vec!["mend", "tool-base.vmdk", "--good", "primary", "-o"],
         collapse,
     ]
 }
@@ -98,6 +99,7 @@ fn a_bad_target_is_told_before_the_work() {
         &["read", "none", "0", "-o"][..],
         &["read", "tool-base.vmdk", "2048", "-o"][..],
         &["normal", "none", "-o"][..],
+        &["mend", "none", "--good", "redundant", "-o"][..],
         &["collapse", "none", "none", "-o"][..],
         &["collapse", CHAIN[0], CHAIN[1], "none", "-o"][..],
     ];

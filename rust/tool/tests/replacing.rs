@@ -19,6 +19,7 @@ fn writers() -> Vec<Vec<&'static str>> {
     vec![
         vec!["read", CHAIN[0], "2", "--force", "-o"],
         vec!["normal", CHAIN[0], "--force", "-o"],
+        vec!["mend", CHAIN[0], "--good", "redundant", "--force", "-o"],
         [&["collapse"], &CHAIN[..], &["--force", "-o"]].concat(),
     ]
 }

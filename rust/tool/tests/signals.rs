@@ -249,6 +249,7 @@ fn a_signal_at_any_time() {
     let commands = [
         vec!["read", "tool-base.vmdk", "2", "-o", "out"],
         vec!["normal", "tool-base.vmdk", "-o", "out"],
+        vec!["mend", "tool-base.vmdk", "--good", "primary", "-o", "out"],
         [&["collapse"], &CHAIN[..], &["-o", "out"]].concat(),
     ];
     for words in commands {

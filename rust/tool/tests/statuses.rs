@@ -39,6 +39,8 @@ fn each_status_has_its_meaning() {
         ("check open", 0),
         ("map open tool-middle.vmdk", 0),
         ("digest open --list holds", 0),
+        ("mend --good primary tool-base.vmdk", 0),
+        ("mend --good redundant open", 0),
         ("check holds", 1),
         ("map holds", 1),
         ("map tool-base.vmdk two-gb-sparse.vmdk", 1),
@@ -46,6 +48,8 @@ fn each_status_has_its_meaning() {
         ("collapse tool-base.vmdk two-gb-sparse.vmdk -o out", 1),
         ("describe holds", 1),
         ("normal open -o out", 1),
+        ("mend --good primary holds", 1),
+        ("mend --good primary two-gb-sparse.vmdk -o out", 1),
         ("collapse tool-middle.vmdk open -o out", 1),
         ("check", 2),
         ("survey", 2),
@@ -53,6 +57,12 @@ fn each_status_has_its_meaning() {
         ("sector tool-base.vmdk two", 2),
         ("check --verbose tool-base.vmdk", 2),
         ("digest tool-base.vmdk --complete", 2),
+        ("mend tool-base.vmdk", 2),
+        ("mend --good both tool-base.vmdk", 2),
+        ("mend --good primary tool-base.vmdk tool-middle.vmdk", 2),
+        ("mend --good primary tool-base.vmdk --force", 2),
+        ("mend --good primary tool-base.vmdk -o -", 2),
+        ("mend --good primary -", 2),
         ("digest tool-base.vmdk --list differs", 3),
         ("digest tool-base.vmdk --list two-gb-sparse.vmdk", 3),
         ("check missing", 4),
@@ -64,6 +74,8 @@ fn each_status_has_its_meaning() {
         ("digest tool-base.vmdk --list missing", 4),
         ("normal tool-base.vmdk -o holds", 4),
         ("normal tool-base.vmdk -o missing/out", 4),
+        ("mend --good primary missing", 4),
+        ("mend --good primary tool-base.vmdk -o holds", 4),
     ] {
         assert_eq!(status(&folder, words), Some(wanted), "{words}");
     }
@@ -107,7 +119,7 @@ fn check_has_a_line_for_every_file_in_order() {
 fn help_tells_the_statuses() {
     let folder = folder();
     let wanted = "  0  yes\n  1  refused by the rules of the format\n  2  wrong use\n  3  a list that does not hold\n  4  a file that cannot be read or written, or that changed\n";
-    for words in ["--help", "check --help", "digest --help", "describe --help"] {
+    for words in ["--help", "check --help", "digest --help", "mend --help"] {
         let words: Vec<&str> = words.split(' ').collect();
         let help = run(folder.path(), &words).well().text();
         assert!(help.contains(wanted), "{help}");
@@ -115,7 +127,7 @@ fn help_tells_the_statuses() {
 }
 
 /// Every command that tells something on standard output.
-const TELLING: [&str; 15] = [
+const TELLING: [&str; 17] = [
     "check tool-base.vmdk",
     "check --json tool-base.vmdk",
     "survey tool-base.vmdk",
@@ -129,6 +141,8 @@ const TELLING: [&str; 15] = [
     "digest tool-base.vmdk --list differs",
     "digest --json tool-base.vmdk --list differs",
     "describe tool-base.vmdk",
+    "mend --good primary tool-base.vmdk",
+    "mend --good primary --json tool-base.vmdk",
     "--help",
     "--version",
 ];
@@ -182,6 +196,7 @@ fn a_standard_error_that_is_closed_or_full_changes_no_status() {
         "sector open 2",
         "describe open",
         "normal open -o out",
+        "mend --good primary open",
         "normal missing -o out",
     ] {
         let plain = run(folder.path(), &words.split(' ').collect::<Vec<_>>());

@@ -9,6 +9,8 @@ mod common;
 mod dirty;
 #[path = "common/disks.rs"]
 mod disks;
+#[path = "common/mends.rs"]
+mod mends;
 
 use common::{run, Folder};
 use std::fs;
@@ -88,6 +90,7 @@ fn transcript(name: &str) {
     let folder = Folder::new().with(&SAMPLES);
     disks::add(&folder);
     dirty::add(&folder);
+    mends::add(&folder);
     add_files(&folder);
 
     let mut now = String::new();
@@ -129,4 +132,4 @@ macro_rules! transcripts {
     };
 }
 
-transcripts!(check survey sector read map digest collapse normal describe refusals split still_open);
+transcripts!(check survey sector read map digest collapse normal describe refusals split still_open mend);

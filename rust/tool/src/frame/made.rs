@@ -24,6 +24,8 @@ struct Made {
     used: u64,
     /// Grain 0 is there already: at sector 1, right after the header.
     early: bool,
+    /// The sectors of tables that are there twice.
+    copies: Vec<u64>,
 }
 
 /// What an image is to be.
@@ -80,6 +82,7 @@ impl Made {
             chance: Chance(seed.wrapping_mul(0x9e37_79b9_7f4a_7c15) | 1),
             used: 0,
             early: false,
+            copies: Vec::new(),
         }
     }
 
@@ -151,6 +154,9 @@ impl Made {
             }
             if none {
                 continue;
+            }
+            if form.redundant {
+                self.copies.extend(&both);
             }
             for index in 0..form.entries() {
                 let word = self.grain(form, entry * form.entries() + index);
@@ -249,6 +255,19 @@ impl Made {
                 let at = 512 * self.chance.below(self.used) + 8;
                 let size = self.chance.below(2) * 512 * self.chance.below(self.used);
                 self.word(at, size);
+            }
+            // Entries of one table that its copy does not have so.
+            8 | 9 if !self.copies.is_empty() => {
+                let tables = self.copies.len() as u64;
+                let table = 512 * self.copies[self.chance.below(tables) as usize];
+                for _ in 0..=self.chance.below(4) {
+                    let [one, another] = [(); 2].map(|()| table + 4 * self.chance.below(200));
+                    let entry = self.bytes[one as usize..][..4].to_vec();
+                    self.word(one, 0);
+                    if self.chance.once_in(2) {
+                        self.put(another, &entry);
+                    }
+                }
             }
             7 => {
                 let most = 64 << self.chance.below(12);

@@ -1,16 +1,20 @@
 //! Own bytes answer as the whole file does: check, survey, lookups, places and chains of images that are whole, cut and damaged.
 
+use crate::entries;
 use crate::failure::Failure;
 use crate::files::Layers;
 use crate::frame::made::image;
+use crate::mended::NOT_MENDABLE;
 use crate::still_open::STILL_OPEN;
 use crate::survey::counted;
-use anhkhovet::{ChainRefusal, Group, Refusal, Source};
+use anhkhovet::{ChainRefusal, Group, Refusal, Side, Source, CHANGE, SECTOR};
 use std::fs;
 use std::path::{Path, PathBuf};
 
 /// Enough that every kind of damage meets every kind of image many times.
 const IMAGES: u64 = 1200;
+/// More than an image has.
+const GRAINS: usize = 1200;
 /// Layers of a chain.
 const CHAIN: usize = 3;
 
@@ -60,6 +64,10 @@ struct Met {
     /// Images that were still open, and those of them that have no normal form for it.
     open: u64,
     unfinished: u64,
+    /// Sides from which there is nothing to mend, those of images with open and with packed grains that are mended, and others.
+    alike: u64,
+    mended: [u64; 2],
+    unmendable: u64,
 }
 
 impl Met {
@@ -86,6 +94,33 @@ impl Met {
         assert_eq!(told.expect("a file"), wanted, "{path:?}");
         let unfinished = matches!(wanted, Err(refusal) if refusal.number == STILL_OPEN);
         self.unfinished += u64::from(unfinished);
+    }
+
+    /// From either side: the answer, the list, and the own bytes that stand for the file's.
+    fn mended(&mut self, path: &Path, whole: &[u8]) {
+        for good in [Side::Primary, Side::Redundant] {
+            let mut layers = Layers::one(path).expect("layers");
+            let mut bytes = whole.to_vec();
+            let mut lists = [[7; CHANGE * GRAINS]; 2];
+            let wanted = anhkhovet::mend(&mut bytes, good, &mut lists[0]);
+            let told = layers.mend(good, &mut lists[1]).expect("a file");
+            assert_eq!(told, wanted, "{path:?} {good:?}");
+            assert_eq!(lists[0], lists[1], "{path:?} {good:?}");
+            for area in layers.frame(0) {
+                let at = (area.first * SECTOR) as usize;
+                let part = at..at + (area.sectors * SECTOR) as usize;
+                assert_eq!(
+                    layers.bytes(0)[part.clone()],
+                    bytes[part],
+                    "{path:?} {good:?}"
+                );
+            }
+            match wanted {
+                Ok(0) => self.alike += 1,
+                Ok(_) => self.mended[usize::from(entries::packed(whole))] += 1,
+                Err(refusal) => self.unmendable += u64::from(refusal.number == NOT_MENDABLE),
+            }
+        }
     }
 
     fn located(&mut self, path: &Path, whole: &[u8]) {
@@ -133,6 +168,7 @@ fn own_bytes_answer_as_the_whole_file() {
         let path = folder.at(seed);
         let whole = fs::read(&path).expect("an image");
         met.judged(&path, &whole);
+        met.mended(&path, &whole);
         met.located(&path, &whole);
     }
     for seed in (0..IMAGES - CHAIN as u64).step_by(CHAIN) {
@@ -150,5 +186,8 @@ fn own_bytes_answer_as_the_whole_file() {
             && met.chains > 1000
             && met.open > 100
             && met.unfinished > 10
+            && met.alike > 100
+            && met.mended.iter().all(|&mended| mended > 25)
+            && met.unmendable > 100
     );
 }

@@ -8,20 +8,32 @@ use std::path::Path;
 
 pub const GRAIN: u64 = 128;
 
-/// An image with a directory and all of its tables, as the collapsed layout has them.
+/// An image with a directory and all of its tables, as the collapsed layout has them, or with two.
 pub struct Image {
     pub file: File,
     pub capacity: u64,
     tables: u64,
+    /// As many bytes after an entry its copy is; 0 where there is none.
+    copies: u64,
     /// The first sector after the tables, at a grain's edge.
     pub start: u64,
 }
 
 impl Image {
     pub fn new(path: &Path, capacity: u64) -> Image {
+        Image::laid_out(path, capacity, 1)
+    }
+
+    /// The same with a redundant directory.
+    pub fn twofold(path: &Path, capacity: u64) -> Image {
+        Image::laid_out(path, capacity, 2)
+    }
+
+    fn laid_out(path: &Path, capacity: u64, sides: u64) -> Image {
         let directory_entries = (capacity + 512 * GRAIN - 1) / (512 * GRAIN);
-        let tables = 1 + (directory_entries * 4 + 511) / 512;
-        let start = (tables + 4 * directory_entries + GRAIN - 1) / GRAIN * GRAIN;
+        let directory_sectors = (directory_entries * 4 + 511) / 512;
+        let tables = 1 + sides * directory_sectors;
+        let start = (tables + sides * 4 * directory_entries + GRAIN - 1) / GRAIN * GRAIN;
         let file = File::options()
             .read(true)
             .write(true)
@@ -32,14 +44,15 @@ impl Image {
             file,
             capacity,
             tables,
+            copies: (sides - 1) * 2048 * directory_entries,
             start,
         };
-        image.put(0, &head(capacity));
-        for entry in 0..directory_entries {
-            image.put(
-                512 + 4 * entry,
-                &((tables + 4 * entry) as u32).to_le_bytes(),
-            );
+        let redundant = (sides - 1) * (1 + directory_sectors);
+        image.put(0, &head(capacity, redundant));
+        for table in 0..sides * directory_entries {
+            let (side, entry) = (table / directory_entries, table % directory_entries);
+            let at = 512 * (1 + side * directory_sectors) + 4 * entry;
+            image.put(at, &((tables + 4 * table) as u32).to_le_bytes());
         }
         image.length(512 * start);
         image
@@ -58,33 +71,47 @@ impl Image {
         512 * (self.tables + 4 * (grain / 512)) + 4 * (grain % 512)
     }
 
-    /// Grain `grain` has table entry `entry`.
+    /// Grain `grain` has table entry `entry`, in both tables where there are two.
     pub fn entry(&self, grain: u64, entry: u64) {
         self.put(self.entry_at(grain), &(entry as u32).to_le_bytes());
+        self.copy(grain, entry);
+    }
+
+    /// The same in the redundant table alone.
+    pub fn copy(&self, grain: u64, entry: u64) {
+        if self.copies > 0 {
+            let at = self.entry_at(grain) + self.copies;
+            self.put(at, &(entry as u32).to_le_bytes());
+        }
     }
 
     /// Every grain stored, in order, and all of them holes.
     pub fn full(path: &Path, capacity: u64) -> Image {
-        let image = Image::new(path, capacity);
-        let grains = capacity / GRAIN;
+        Image::new(path, capacity).filled()
+    }
+
+    /// The same with every grain stored, in order, and all of them holes.
+    pub fn filled(self) -> Image {
+        let grains = self.capacity / GRAIN;
         for grain in 0..grains {
-            image.entry(grain, image.start + GRAIN * grain);
+            self.entry(grain, self.start + GRAIN * grain);
         }
-        image.length(512 * (image.start + GRAIN * grains));
-        image
+        self.length(512 * (self.start + GRAIN * grains));
+        self
     }
 }
 
-fn head(capacity: u64) -> Vec<u8> {
+fn head(capacity: u64, redundant: u64) -> Vec<u8> {
     let mut head = b"KDMV".to_vec();
-    for number in [2u32, 5] {
+    let flags = if redundant == 0 { 5 } else { 7 };
+    for number in [2u32, flags] {
         head.extend(number.to_le_bytes());
     }
     for number in [capacity, GRAIN, 0, 0] {
         head.extend(number.to_le_bytes());
     }
     head.extend(512u32.to_le_bytes());
-    for number in [0u64, 1, 0] {
+    for number in [redundant, 1, 0] {
         head.extend(number.to_le_bytes());
     }
     head.push(0);
