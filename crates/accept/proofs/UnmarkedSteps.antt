@@ -6,12 +6,13 @@ use mathlib.Core.Bool.{Bool, true, false}
 use Rattle.base.specs.Pick.{pick}
 use Rattle.base.proofs.Steps.{cond-all}
 use Rattle.format.specs.Areas.{areas, meet}
-use Rattle.format.specs.Check.{misplaced, lowestPast, lowestBadMarker, copiesDiffer, unlessGrain, checkApart, checkCopies}
-use Rattle.format.specs.Check.{checkGrains, checkLayout}
+use Rattle.format.specs.Check.{misplaced, lowestMisplaced, lowestPast, lowestBadMarker, copiesDiffer, unlessGrain}
+use Rattle.format.specs.Check.{checkApart, checkCopies, checkGrains, checkLayout}
 use Rattle.format.specs.CheckIn.{cameToMarking}
 use Rattle.format.specs.declared.Header.{Header}
 use Rattle.format.specs.declared.Lowest.{Lowest}
 use Rattle.format.specs.declared.Lowest.the-variants.{None, Grain}
+use Rattle.format.specs.declared.MisplacedPart.{MisplacedPart}
 use Rattle.format.specs.declared.Refusal.{Refusal}
 use Rattle.format.specs.declared.Refusal.the-variants.{Misplaced, GrainPast, Marker, CopiesDiffer}
 use Rattle.format.specs.declared.CheckAnswer.{CheckAnswer}
@@ -62,13 +63,15 @@ module _ (s : List ℕ) (h : Header) (z : HeaderAnswer) where
     unfolding checkCopies
     copies-kept is t q = rule-kept z h (copiesDiffer s h) r is (checkApart s h) CopiesDiffer t (q ∙ apart-known s h)
 
-    pub places-broken : r ≡ misplaced s h → r ≡ true → z ≡ unknown Misplaced → z ≡ unmarkedOf (checkLayout s h) h
+    pub places-broken : (p : MisplacedPart) → r ≡ misplaced s h → r ≡ true → p ≡ lowestMisplaced s h → z ≡ unknown (Misplaced p)
+        → z ≡ unmarkedOf (checkLayout s h) h
     unfolding checkLayout cameToMarking
-    places-broken is t q = rule-broken z h (misplaced s h) r is (checkGrains s h) Misplaced refl t q
+    places-broken p is t low q =
+        rw (← low) (rule-broken z h (misplaced s h) r is (checkGrains s h) (Misplaced p) refl t q)
 
     pub places-kept : r ≡ misplaced s h → r ≡ false → z ≡ unmarkedOf (checkGrains s h) h → z ≡ unmarkedOf (checkLayout s h) h
     unfolding checkLayout
-    places-kept is t q = rule-kept z h (misplaced s h) r is (checkGrains s h) Misplaced t q
+    places-kept is t q = rule-kept z h (misplaced s h) r is (checkGrains s h) _ t q
 
   module _ (l e : Lowest) (is : l ≡ e) (y : CheckAnswer) (g : ℕ) (t : l ≡ Grain g) where
     pub past-found : z ≡ unknown (GrainPast g) → z ≡ unmarkedOf (unlessGrain e GrainPast y) h

@@ -56,7 +56,7 @@ fn judge_layout(image: &[u8], h: Header) -> HeaderAnswer
     ensures { λ r. ⌜ r ≡ unmarkedOf (checkLayout (now (image .entry)) h) h ⌝ }
 {
     if places::misplaced(image, h) {
-        return HeaderAnswer::Refused(Refusal::Misplaced);
+        return HeaderAnswer::Refused(Refusal::Misplaced(places::lowest_misplaced(image, h)));
     }
     judge_grains(image, h)
 }

@@ -1,6 +1,6 @@
 // Answers in document 01's numbers, for whoever prints them or hands them on.
 ghost use mathlib.Core.Path.{_≡_};
-ghost use Rattle.format.specs.Answers.{number, place, headerNumbers, verdict, markedNumbers, served, unserved};
+ghost use Rattle.format.specs.Answers.{number, partNumber, place, headerNumbers, verdict, markedNumbers, served, unserved};
 ghost use Rattle.format.specs.Answers.{located, chained, written, framed, surveyed, sideOf, mendedNumbers};
 use format::ChainAnswer;
 use format::CheckAnswer;
@@ -15,6 +15,7 @@ use format::Marked;
 use format::MarkedAnswer;
 use format::MendAnswer;
 use format::Mended;
+use format::MisplacedPart;
 use format::Refusal;
 use format::Side;
 use format::Source;
@@ -22,6 +23,19 @@ use format::SurveyAnswer;
 use format::Surveyed;
 use format::Verdict;
 use format::Written;
+
+// The number of a part that 8 names.
+fn part_number(part: MisplacedPart) -> u64
+    ensures { λ r. ⌜ r ≡ partNumber part ⌝ }
+{
+    match part {
+        MisplacedPart::Descriptor => 1,
+        MisplacedPart::Directory => 2,
+        MisplacedPart::RedundantDirectory => 3,
+        MisplacedPart::PrimaryTable => 4,
+        MisplacedPart::RedundantTable => 5,
+    }
+}
 
 // A refusal's number and place.
 struct Numbers(u64, u64);
@@ -37,7 +51,7 @@ fn numbers_of(refusal: Refusal) -> Numbers
         Refusal::Flags => Numbers(5, 0),
         Refusal::Sizes => Numbers(6, 0),
         Refusal::Footer => Numbers(7, 0),
-        Refusal::Misplaced => Numbers(8, 0),
+        Refusal::Misplaced(part) => Numbers(8, part_number(part)),
         Refusal::GrainPast(g) => Numbers(9, g),
         Refusal::Marker(g) => Numbers(10, g),
         Refusal::CopiesDiffer => Numbers(11, 0),

@@ -6,6 +6,9 @@ use lib.Dec.{eqb}
 use Rattle.base.specs.Pick.{pick}
 use Rattle.format.specs.Answers.{number, place, verdict, markedNumbers, located, chained, written, framed, surveyed}
 use Rattle.format.specs.Answers.{mendedNumbers}
+use Rattle.format.specs.declared.MisplacedPart.{MisplacedPart}
+use Rattle.format.specs.declared.MisplacedPart.the-variants.{Descriptor, Directory, RedundantDirectory}
+use Rattle.format.specs.declared.MisplacedPart.the-variants.{PrimaryTable, RedundantTable}
 use Rattle.format.specs.declared.Refusal.{Refusal}
 use Rattle.format.specs.declared.Refusal.the-variants.{TooShort, Magic, Version, Newline, Flags, Sizes, Footer, Misplaced}
 use Rattle.format.specs.declared.Refusal.the-variants.{GrainPast, Marker, CopiesDiffer, SharedSector, SectorPast}
@@ -41,6 +44,12 @@ lossless : {A B : Type 0} (tell : A → B) (back : B → A) → ((a : A) → bac
 lossless tell back h a b e = sym (h a) ∙ ap back e ∙ h b
 
 -- ---- refusals
+partOf : ℕ → MisplacedPart
+partOf p =
+    pick (eqb p 1) Descriptor
+    (pick (eqb p 2) Directory
+    (pick (eqb p 3) RedundantDirectory (pick (eqb p 4) PrimaryTable RedundantTable)))
+
 refusalOf : ℕ → ℕ → Refusal
 refusalOf n p =
     pick (eqb n 1) TooShort
@@ -50,7 +59,7 @@ refusalOf n p =
     (pick (eqb n 5) Flags
     (pick (eqb n 6) Sizes
     (pick (eqb n 7) Footer
-    (pick (eqb n 8) Misplaced
+    (pick (eqb n 8) (Misplaced (partOf p))
     (pick (eqb n 9) (GrainPast p)
     (pick (eqb n 10) (Marker p)
     (pick (eqb n 11) CopiesDiffer
@@ -67,7 +76,7 @@ record Told (r : Refusal) : Type 0 where
   some : eqb (number r) 0 ≡ false
 
 told : (r : Refusal) → Told r
-unfolding pick refusalOf
+unfolding pick partOf refusalOf
 told TooShort = record { back = refl; some = refl }
 told Magic = record { back = refl; some = refl }
 told Version = record { back = refl; some = refl }
@@ -75,7 +84,11 @@ told Newline = record { back = refl; some = refl }
 told Flags = record { back = refl; some = refl }
 told Sizes = record { back = refl; some = refl }
 told Footer = record { back = refl; some = refl }
-told Misplaced = record { back = refl; some = refl }
+told (Misplaced Descriptor) = record { back = refl; some = refl }
+told (Misplaced Directory) = record { back = refl; some = refl }
+told (Misplaced RedundantDirectory) = record { back = refl; some = refl }
+told (Misplaced PrimaryTable) = record { back = refl; some = refl }
+told (Misplaced RedundantTable) = record { back = refl; some = refl }
 told (GrainPast g) = record { back = refl; some = refl }
 told (Marker g) = record { back = refl; some = refl }
 told CopiesDiffer = record { back = refl; some = refl }

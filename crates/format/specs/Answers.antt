@@ -2,6 +2,9 @@
 use Prim.Native.Nat.{ℕ}
 use lib.Dec.{eqb}
 use Rattle.base.specs.Pick.{pick}
+use Rattle.format.specs.declared.MisplacedPart.{MisplacedPart}
+use Rattle.format.specs.declared.MisplacedPart.the-variants.{Descriptor, Directory, RedundantDirectory}
+use Rattle.format.specs.declared.MisplacedPart.the-variants.{PrimaryTable, RedundantTable}
 use Rattle.format.specs.declared.Refusal.{Refusal}
 use Rattle.format.specs.declared.Refusal.the-variants.{TooShort, Magic, Version, Newline, Flags, Sizes, Footer, Misplaced}
 use Rattle.format.specs.declared.Refusal.the-variants.{GrainPast, Marker, CopiesDiffer, SharedSector, SectorPast}
@@ -46,7 +49,7 @@ number Newline = 4
 number Flags = 5
 number Sizes = 6
 number Footer = 7
-number Misplaced = 8
+number (Misplaced part) = 8
 number (GrainPast g) = 9
 number (Marker g) = 10
 number CopiesDiffer = 11
@@ -59,7 +62,16 @@ number LayerLengths = 24
 number StillOpen = 27
 number NotMendable = 40
 
--- the grain for 9 and 10 (the lowest one at fault; in a lookup the sector's own), else 0
+-- the parts of 8 (request A8)
+abbrev pub partNumber : MisplacedPart → ℕ
+partNumber Descriptor = 1
+partNumber Directory = 2
+partNumber RedundantDirectory = 3
+partNumber PrimaryTable = 4
+partNumber RedundantTable = 5
+
+-- the part for 8 (the lowest that applies; in a lookup the directory or the sector's own table), the grain for 9 and 10 (the
+-- lowest one at fault; in a lookup the sector's own), else 0
 abbrev pub place : Refusal → ℕ
 place TooShort = 0
 place Magic = 0
@@ -68,7 +80,7 @@ place Newline = 0
 place Flags = 0
 place Sizes = 0
 place Footer = 0
-place Misplaced = 0
+place (Misplaced part) = partNumber part
 place (GrainPast g) = g
 place (Marker g) = g
 place CopiesDiffer = 0

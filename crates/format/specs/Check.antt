@@ -14,6 +14,9 @@ use Rattle.format.specs.declared.Entry.{Entry}
 use Rattle.format.specs.declared.Entry.the-variants.{Absent, Zero, Sector}
 use Rattle.format.specs.declared.Lowest.{Lowest}
 use Rattle.format.specs.declared.Lowest.the-variants.{None, Grain}
+use Rattle.format.specs.declared.MisplacedPart.{MisplacedPart}
+use Rattle.format.specs.declared.MisplacedPart.the-variants.{Descriptor, Directory, RedundantDirectory}
+use Rattle.format.specs.declared.MisplacedPart.the-variants.{PrimaryTable, RedundantTable}
 use Rattle.format.specs.declared.Refusal.{Refusal}
 use Rattle.format.specs.declared.Refusal.the-variants.{Misplaced, GrainPast, Marker, CopiesDiffer, SharedSector}
 use Rattle.format.specs.declared.HeaderAnswer.{HeaderAnswer}
@@ -21,7 +24,7 @@ use Rattle.format.specs.declared.HeaderAnswer.the-variants.{Known, Refus
 use Rattle.format.specs.declared.CheckAnswer.{CheckAnswer}
 use Rattle.format.specs.declared.CheckAnswer.the-variants.{Accepted, Refused}
 
--- ---- 8, part by part, in this order, which shows in no answer
+-- ---- 8, part by part, in the order of their places
 -- one descriptor number zero and one not, or the descriptor past F
 abbrev pub descriptorMisplaced : ℕ → Header → Bool
 descriptorMisplaced f h =
@@ -50,6 +53,14 @@ misplaced s h =
     (pick (directoryMisplaced (fileSectors s) h) true
     (pick (redundantDirectoryMisplaced (fileSectors s) h) true
     (pick (primaryTablesMisplaced s h) true (redundantTablesMisplaced s h))))
+
+-- its place (request A8): where a part is misplaced, the lowest one that is
+unfoldable pub lowestMisplaced : List ℕ → Header → MisplacedPart
+lowestMisplaced s h =
+    pick (descriptorMisplaced (fileSectors s) h) Descriptor
+    (pick (directoryMisplaced (fileSectors s) h) Directory
+    (pick (redundantDirectoryMisplaced (fileSectors s) h) RedundantDirectory
+    (pick (primaryTablesMisplaced s h) PrimaryTable RedundantTable)))
 
 -- ---- 9 and 10, with the lowest grain number
 -- the first of the n grains from g on that is broken
@@ -118,7 +129,7 @@ unfoldable pub checkGrains : List ℕ → Header → CheckAnswer
 checkGrains s h = unlessGrain (lowestPast s h) GrainPast (unlessGrain (lowestBadMarker s h) Marker (checkCopies s h))
 
 unfoldable pub checkLayout : List ℕ → Header → CheckAnswer
-checkLayout s h = pick (misplaced s h) (Refused Misplaced) (checkGrains s h)
+checkLayout s h = pick (misplaced s h) (Refused (Misplaced (lowestMisplaced s h))) (checkGrains s h)
 
 unfoldable pub checkFrom : List ℕ → HeaderAnswer → CheckAnswer
 checkFrom s (headerRefused r) = Refused r

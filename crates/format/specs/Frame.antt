@@ -9,7 +9,7 @@ use Rattle.base.specs.Bytes.{over}
 use Rattle.format.specs.Header.{headerOf, judge}
 use Rattle.format.specs.Areas.{Area, headerArea, descriptorArea, directoryArea, redundantArea, primaryTables}
 use Rattle.format.specs.Areas.{redundantTables, footerArea, lastArea}
-use Rattle.format.specs.Check.{misplaced}
+use Rattle.format.specs.Check.{misplaced, lowestMisplaced}
 use Rattle.format.specs.declared.Header.{Header}
 use Rattle.format.specs.declared.Refusal.the-variants.{Misplaced, TooLittleRoom}
 use Rattle.format.specs.declared.HeaderAnswer.{HeaderAnswer}
@@ -53,7 +53,8 @@ listedIfRoom room count = pick (ltb room (3 * count)) (Refused TooLittleRoom) (L
 
 unfoldable pub frameFrom : List ℕ → ℕ → HeaderAnswer → FrameAnswer
 frameFrom s room (headerRefused r) = Refused r
-frameFrom s room (Known h) = pick (misplaced s h) (Refused Misplaced) (listedIfRoom room (frameCount s h))
+frameFrom s room (Known h) =
+    pick (misplaced s h) (Refused (Misplaced (lowestMisplaced s h))) (listedIfRoom room (frameCount s h))
 
 abbrev pub frame : List ℕ → ℕ → FrameAnswer
 frame s room = frameFrom s room (judge s)

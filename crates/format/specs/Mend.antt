@@ -13,7 +13,7 @@ use Rattle.format.specs.Header.{grainsOf, directoryEntriesOf, headerOf, 
 use Rattle.format.specs.Entries.{entryAt, meaningAt, entriesInUse, anyBelow}
 use Rattle.format.specs.Areas.{Area, headerArea, directoryArea, redundantArea, primaryTables, redundantTables, footerArea}
 use Rattle.format.specs.Areas.{meet}
-use Rattle.format.specs.Check.{misplaced, check}
+use Rattle.format.specs.Check.{misplaced, lowestMisplaced, check}
 use Rattle.format.specs.declared.Header.{Header}
 use Rattle.format.specs.declared.Side.{Side}
 use Rattle.format.specs.declared.Side.the-variants.{Primary, Redundant}
@@ -137,7 +137,7 @@ mendGood s g room = pick (unmendable s g) (Refused NotMendable) (mendedIfRoom ro
 unfoldable pub mendFrom : List ℕ → Side → ℕ → HeaderAnswer → MendAnswer
 mendFrom s side room (headerRefused r) = Refused r
 mendFrom s side room (Known h) =
-    pick (misplaced s h) (Refused Misplaced)
+    pick (misplaced s h) (Refused (Misplaced (lowestMisplaced s h)))
     (pick (eqb (h .redundant) 0) (Refused NotMendable) (mendGood s (fromGood side h) room))
 
 abbrev pub mend : List ℕ → Side → ℕ → MendAnswer

@@ -14,6 +14,7 @@ use Rattle.format.specs.declared.Entry.{Entry}
 use Rattle.format.specs.declared.Entry.the-variants.{Absent as noEntry, Zero as zeroEntry, Sector}
 use Rattle.format.specs.declared.Source.{Source}
 use Rattle.format.specs.declared.Source.the-variants.{Absent, Zero, Stored, Packed}
+use Rattle.format.specs.declared.MisplacedPart.the-variants.{Directory, PrimaryTable}
 use Rattle.format.specs.declared.Refusal.the-variants.{Misplaced, GrainPast, Marker, SectorPast}
 use Rattle.format.specs.declared.HeaderAnswer.{HeaderAnswer}
 use Rattle.format.specs.declared.HeaderAnswer.the-variants.{Known, Refused as headerRefused}
@@ -50,14 +51,14 @@ unfoldable pub lookupTable : List ℕ → Header → ℕ → ℕ → Entry → L
 lookupTable s h g o noEntry = Found Absent
 lookupTable s h g o zeroEntry = Found Zero
 lookupTable s h g o (Sector t) =
-    pick (endsPast (fileSectors s) (area t (h .«table_sectors»))) (Refused Misplaced)
+    pick (endsPast (fileSectors s) (area t (h .«table_sectors»))) (Refused (Misplaced PrimaryTable))
     (lookupEntry s h g o (meaningAt s (h .«one_is_zero») t (g % h .«entries_per_table»)))
 
 unfoldable pub lookupIn : List ℕ → Header → ℕ → LookupAnswer
 lookupIn s h x =
     let g = x / h .«grain_size» in
     pick (leb (h .capacity) x) (Refused SectorPast)
-    (pick (directoryMisplaced (fileSectors s) h) (Refused Misplaced)
+    (pick (directoryMisplaced (fileSectors s) h) (Refused (Misplaced Directory))
     (lookupTable s h g (x % h .«grain_size») (meaningAt s (h .«one_is_zero») (h .directory) (g / h .«entries_per_table»))))
 
 unfoldable pub lookupFrom : List ℕ → ℕ → HeaderAnswer → LookupAnswer

@@ -50,8 +50,17 @@ pub struct Header {
     pub dirty: u64,
 }
 
-// Why a call on images refuses, in the order of its numbers: 1 to 12, 20 to 24, 27, 40. A case holds the grain that is its
-// place.
+// The parts that 8 judges, in the order of their places.
+pub enum MisplacedPart {
+    Descriptor,
+    Directory,
+    RedundantDirectory,
+    PrimaryTable,
+    RedundantTable,
+}
+
+// Why a call on images refuses, in the order of its numbers: 1 to 12, 20 to 24, 27, 40. A case holds the part or the grain that
+// is its place.
 pub enum Refusal {
     TooShort,
     Magic,
@@ -60,7 +69,7 @@ pub enum Refusal {
     Flags,
     Sizes,
     Footer,
-    Misplaced,
+    Misplaced(MisplacedPart),
     GrainPast(u64),
     Marker(u64),
     CopiesDiffer,

@@ -12,10 +12,11 @@ use Rattle.base.specs.Bytes.{over}
 use Rattle.format.specs.Header.{headerOf, judge}
 use Rattle.format.specs.Areas.{headerArea, descriptorArea, directoryArea, redundantArea, primaryTables, redundantTables}
 use Rattle.format.specs.Areas.{footerArea, lastArea}
-use Rattle.format.specs.Check.{misplaced}
+use Rattle.format.specs.Check.{misplaced, lowestMisplaced}
 use Rattle.format.specs.Judged.{Placed}
 use Rattle.format.specs.Frame.{told, frameWords, frameAreas, frameCount, listedIfRoom, frameFrom, frame, listAfter, frameList}
 use Rattle.format.specs.declared.Header.{Header}
+use Rattle.format.specs.declared.MisplacedPart.{MisplacedPart}
 use Rattle.format.specs.declared.Refusal.{Refusal}
 use Rattle.format.specs.declared.Refusal.the-variants.{Misplaced, TooLittleRoom}
 use Rattle.format.specs.declared.HeaderAnswer.{HeaderAnswer}
@@ -64,9 +65,10 @@ module _ (s : List ℕ) (h : Header) (list : List ℕ) (count : ℕ) (e : count 
 
 -- ---- 8, then the rest
 module _ (s : List ℕ) (h : Header) (list : List ℕ) {r : Bool} (q : r ≡ misplaced s h) where
-  pub misplaced-told : r ≡ true → FrameTold (frameFrom s (length list) (Known h)) (frameWords s h) list (Refused Misplaced) list
+  pub misplaced-told : r ≡ true → {p : MisplacedPart} → p ≡ lowestMisplaced s h
+      → FrameTold (frameFrom s (length list) (Known h)) (frameWords s h) list (Refused (Misplaced p)) list
   unfolding frameFrom pick listAfter
-  misplaced-told t = rw (← q, t) (record { told = refl; left = refl })
+  misplaced-told t low = rw (← q, t, ← low) (record { told = refl; left = refl })
 
   pub placed-of : judge s ≡ Known h → r ≡ false → Placed s h
   placed-of e f = record { sound = sound-of s h e; kept = sym q ∙ f }

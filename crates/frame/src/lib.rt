@@ -100,7 +100,7 @@ fn frame_in(image: &[u8], h: Header, list: &mut [u64]) -> FrameAnswer
         (frameWords (now (image .entry)) h) (now (list .entry)) r (now (list .exit)) ⌝ }
 {
     if places::misplaced(image, h) {
-        return FrameAnswer::Refused(Refusal::Misplaced);
+        return FrameAnswer::Refused(Refusal::Misplaced(places::lowest_misplaced(image, h)));
     }
     list_areas(image, h, &mut *list)
 }

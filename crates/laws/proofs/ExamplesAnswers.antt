@@ -4,6 +4,8 @@ use mathlib.Core.List.{List, [], _∷_, map}
 use mathlib.Core.Path.{refl}
 use Rattle.format.specs.Answers.{number, place, headerNumbers, verdict, markedNumbers, located, chained, written}
 use Rattle.format.specs.declared.MarkedAnswer.{MarkedAnswer}
+use Rattle.format.specs.declared.MisplacedPart.the-variants.{Descriptor, Directory, RedundantDirectory}
+use Rattle.format.specs.declared.MisplacedPart.the-variants.{PrimaryTable, RedundantTable}
 use Rattle.format.specs.declared.Refusal.{Refusal}
 use Rattle.format.specs.declared.Refusal.the-variants.{TooShort, Magic, Version, Newline, Flags, Sizes, Footer, Misplaced}
 use Rattle.format.specs.declared.Refusal.the-variants.{GrainPast, Marker, CopiesDiffer, SharedSector, SectorPast}
@@ -50,7 +52,11 @@ refusals =
     ∷ Flags
     ∷ Sizes
     ∷ Footer
-    ∷ Misplaced
+    ∷ Misplaced Descriptor
+    ∷ Misplaced Directory
+    ∷ Misplaced RedundantDirectory
+    ∷ Misplaced PrimaryTable
+    ∷ Misplaced RedundantTable
     ∷ GrainPast 31
     ∷ Marker 32
     ∷ CopiesDiffer
@@ -65,8 +71,10 @@ refusals =
 
 abbrev answers : List (Example (List ℕ))
 answers =
-    example (map number refusals) (1 ∷ 2 ∷ 3 ∷ 4 ∷ 5 ∷ 6 ∷ 7 ∷ 8 ∷ 9 ∷ 10 ∷ 11 ∷ 12 ∷ 20 ∷ 21 ∷ 22 ∷ 23 ∷ 24 ∷ 27 ∷ [])
-    ∷ example (map place refusals) (0 ∷ 0 ∷ 0 ∷ 0 ∷ 0 ∷ 0 ∷ 0 ∷ 0 ∷ 31 ∷ 32 ∷ 0 ∷ 0 ∷ 0 ∷ 0 ∷ 0 ∷ 0 ∷ 0 ∷ 0 ∷ [])
+    example (map number refusals)
+    (1 ∷ 2 ∷ 3 ∷ 4 ∷ 5 ∷ 6 ∷ 7 ∷ 8 ∷ 8 ∷ 8 ∷ 8 ∷ 8 ∷ 9 ∷ 10 ∷ 11 ∷ 12 ∷ 20 ∷ 21 ∷ 22 ∷ 23 ∷ 24 ∷ 27 ∷ [])
+    ∷ example (map place refusals)
+    (0 ∷ 0 ∷ 0 ∷ 0 ∷ 0 ∷ 0 ∷ 0 ∷ 1 ∷ 2 ∷ 3 ∷ 4 ∷ 5 ∷ 31 ∷ 32 ∷ 0 ∷ 0 ∷ 0 ∷ 0 ∷ 0 ∷ 0 ∷ 0 ∷ 0 ∷ [])
     -- a header: capacity, grain size, the descriptor's sector and sectors, dirty
     ∷ example (headed (Known (plainHeader 19 7 1 0))) (0 ∷ 0 ∷ 16 ∷ 8 ∷ 19 ∷ 7 ∷ 0 ∷ [])
     ∷ example (headed (Known (openHeader 32 8 5))) (0 ∷ 0 ∷ 32 ∷ 8 ∷ 0 ∷ 0 ∷ 5 ∷ [])

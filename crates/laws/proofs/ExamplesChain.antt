@@ -16,6 +16,7 @@ use Rattle.format.specs.Source.{lookupTable, lookupIn, lookupFrom}
 use Rattle.format.specs.Chain.{lengthsSum, ifKnown, headersDown, unlike, unlessAbsent, walkDown, walk, chainLookup}
 use Rattle.format.specs.declared.Source.{Source}
 use Rattle.format.specs.declared.Source.the-variants.{Absent, Zero, Stored, Packed}
+use Rattle.format.specs.declared.MisplacedPart.the-variants.{Directory}
 use Rattle.format.specs.declared.Refusal.the-variants.{TooShort, Magic, Misplaced, GrainPast, SectorPast, LayersDiffer}
 use Rattle.format.specs.declared.Refusal.the-variants.{LayerLengths}
 use Rattle.format.specs.declared.LookupAnswer.the-variants.{Found as foundIn, Refused as lookupRefused}
@@ -58,7 +59,7 @@ chains =
     ∷ example (heads (kdmvSector 8 8 1) (kdmvSector 8 16 1) 9) (Refused 0 LayersDiffer)
     -- 20 names layer 0; the lookup in the topmost layer names that one
     ∷ example (heads (kdmvSector 8 8 1) (kdmvSector 8 8 1) 8) (Refused 0 SectorPast)
-    ∷ example (heads (kdmvSector 8 8 1) (kdmvSector 8 8 1) 7) (Refused 1 Misplaced)
+    ∷ example (heads (kdmvSector 8 8 1) (kdmvSector 8 8 1) 7) (Refused 1 (Misplaced Directory))
     -- the topmost layer not absent, else layer 0 and absent
     ∷ example (two 0 0 7) (found 0 Absent)
     ∷ example (two 1 0 7) (found 0 Zero)

@@ -19,11 +19,13 @@ use Rattle.format.specs.Areas.{Area, area, ifThere, named, headerArea, descript
 use Rattle.format.specs.Areas.{primaryTables, redundantTables, footerArea, lastArea, areas, runsPast, shares, sharesAny}
 use Rattle.format.specs.Areas.{meet}
 use Rattle.format.specs.Check.{descriptorMisplaced, directoryMisplaced, redundantDirectoryMisplaced}
-use Rattle.format.specs.Check.{misplaced, lowestFrom, markerBrokenAt, copyDiffers, copiesDiffer, unlessGrain, checkApart}
+use Rattle.format.specs.Check.{misplaced, lowestMisplaced, lowestFrom, markerBrokenAt, copyDiffers, copiesDiffer, unlessGrain, checkApart}
 use Rattle.format.specs.Check.{checkCopies, checkGrains, checkLayout, checkFrom, check}
 use Rattle.format.specs.Accepted.{FooterRules}
 use Rattle.format.specs.declared.Header.{Header}
 use Rattle.format.specs.declared.Entry.the-variants.{Absent, Zero, Sector}
+use Rattle.format.specs.declared.MisplacedPart.the-variants.{Descriptor, Directory, RedundantDirectory}
+use Rattle.format.specs.declared.MisplacedPart.the-variants.{PrimaryTable, RedundantTable}
 use Rattle.format.specs.declared.Refusal.the-variants.{Misplaced, GrainPast, Marker, CopiesDiffer, SharedSector}
 use Rattle.format.specs.declared.HeaderAnswer.the-variants.{Known}
 use Rattle.format.specs.declared.CheckAnswer.the-variants.{Accepted, Refused}
@@ -76,8 +78,8 @@ streams-checked = (
 pub copies-checked :
     (check doubled ≡ Accepted 16 8)
     -- 8: a table of either past F
-    × (check (with 512 4 9 doubled) ≡ Refused Misplaced)
-    × (check (with 1024 4 9 doubled) ≡ Refused Misplaced)
+    × (check (with 512 4 9 doubled) ≡ Refused (Misplaced PrimaryTable))
+    × (check (with 1024 4 9 doubled) ≡ Refused (Misplaced RedundantTable))
     -- 9: grain 1 past F, before 11
     × (check (with 1540 4 5 doubled) ≡ Refused (GrainPast 1))
     -- 11: the copies differ in grain 1, before 12; the next entry is not in use
@@ -85,7 +87,7 @@ pub copies-checked :
     × (check (with 1544 4 2 doubled) ≡ Accepted 16 8)
     -- 12: grain 1 on the tables and the descriptor
     × (check (with 1540 4 4 (with 3588 4 4 doubled)) ≡ Refused SharedSector)
-unfolding pick powerUpTo leAt leBytes sameAt over zeros rows grains directoryEntries directorySectors kdmvFields kdmvFault kdmvHeader directoryOf unlessFault withFooter judgeKdmv judge meaning inTable entryOfGrain grainSectors anyBelow ifThere named redundantTables areas runsPast shares sharesAny meet misplaced lowestFrom copyDiffers copiesDiffer unlessGrain checkApart checkCopies checkGrains checkLayout
+unfolding pick powerUpTo leAt leBytes sameAt over zeros rows grains directoryEntries directorySectors kdmvFields kdmvFault kdmvHeader directoryOf unlessFault withFooter judgeKdmv judge meaning inTable entryOfGrain grainSectors anyBelow ifThere named redundantTables areas runsPast shares sharesAny meet misplaced lowestMisplaced lowestFrom copyDiffers copiesDiffer unlessGrain checkApart checkCopies checkGrains checkLayout
 copies-checked =
     let h = plainHeader 11 1 1 2 in (
       checked doubled h refl,

@@ -9,10 +9,11 @@ use Rattle.base.specs.Rows.{rows}
 use Rattle.format.specs.Geometry.{directoryEntries}
 use Rattle.format.specs.Entries.{meaning}
 use Rattle.format.specs.Areas.{ifThere, named, redundantTables, runsPast}
-use Rattle.format.specs.Check.{misplaced}
+use Rattle.format.specs.Check.{misplaced, lowestMisplaced}
 use Rattle.format.specs.Frame.{toldArea, told, frameWords, frameAreas, listedIfRoom, frameFrom, listAfter}
 use Rattle.format.specs.declared.Header.{Header}
 use Rattle.format.specs.declared.HeaderAnswer.the-variants.{Known, Refused as unknown}
+use Rattle.format.specs.declared.MisplacedPart.the-variants.{Directory}
 use Rattle.format.specs.declared.Refusal.the-variants.{Flags, Misplaced, TooLittleRoom}
 use Rattle.format.specs.declared.FrameAnswer.{FrameAnswer}
 use Rattle.format.specs.declared.FrameAnswer.the-variants.{Listed, Refused}
@@ -40,9 +41,9 @@ asked room h = frameFrom doubled room (Known h)
 pub answers-doubled :
     (asked 18 (plainHeader 11 1 1 2) ≡ Listed 6)
     × (asked 17 (plainHeader 11 1 1 2) ≡ Refused TooLittleRoom)
-    × (asked 0 (plainHeader 11 1 12 2) ≡ Refused Misplaced)
+    × (asked 0 (plainHeader 11 1 12 2) ≡ Refused (Misplaced Directory))
     × (frameFrom doubled 18 (unknown Flags) ≡ Refused Flags)
-unfolding pick leAt leBytes over zeros rows directoryEntries meaning ifThere named redundantTables runsPast misplaced frameAreas listedIfRoom frameFrom
+unfolding pick leAt leBytes over zeros rows directoryEntries meaning ifThere named redundantTables runsPast misplaced lowestMisplaced frameAreas listedIfRoom frameFrom
 answers-doubled = (refl, refl, refl, refl)
 
 -- ---- the list: words from its start on, and the rest as it was; on a refusal all as it was

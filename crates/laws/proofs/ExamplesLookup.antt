@@ -15,6 +15,7 @@ use Rattle.format.specs.Source.{grainSource, lookupGrain, lookupEntry, lookupTa
 use Rattle.format.specs.Source.{answerPart, sourceBytes}
 use Rattle.format.specs.declared.Header.{Header}
 use Rattle.format.specs.declared.Source.the-variants.{Absent, Zero, Stored, Packed}
+use Rattle.format.specs.declared.MisplacedPart.the-variants.{Directory, PrimaryTable}
 use Rattle.format.specs.declared.Refusal.the-variants.{Misplaced, GrainPast, Marker, SectorPast}
 use Rattle.format.specs.declared.HeaderAnswer.the-variants.{Known}
 use Rattle.format.specs.declared.LookupAnswer.{LookupAnswer}
@@ -85,11 +86,11 @@ lookups =
     example (at 1 (zeros 1024) 0) (Found Absent)
     ∷ example (at 1 (zeros 512 ++ leBytes 4 1 ++ zeros 508) 15) (Found Zero)
     -- 8: directory sector 0, the directory past F, the table past F by a sector; 20 comes first
-    ∷ example (at 0 (zeros 1024) 15) (Refused Misplaced)
-    ∷ example (at 2 (zeros 1024) 15) (Refused Misplaced)
+    ∷ example (at 0 (zeros 1024) 15) (Refused (Misplaced Directory))
+    ∷ example (at 2 (zeros 1024) 15) (Refused (Misplaced Directory))
     ∷ example (at 0 (zeros 1024) 16) (Refused SectorPast)
     ∷ example (at 1 (zeros 512 ++ leBytes 4 2 ++ zeros 2556) 0) (Found Absent)
-    ∷ example (at 1 (zeros 512 ++ leBytes 4 3 ++ zeros 2556) 0) (Refused Misplaced)
+    ∷ example (at 1 (zeros 512 ++ leBytes 4 3 ++ zeros 2556) 0) (Refused (Misplaced PrimaryTable))
     ∷ []
 
 pub lookups-hold : Hold lookups

@@ -12,11 +12,12 @@ use Rattle.format.specs.Kdmv.{kdmvFields, kdmvFault}
 use Rattle.format.specs.Header.{kdmvHeader, directoryOf, headerOf, unlessFault, withFooter, judgeKdmv, judge}
 use Rattle.format.specs.Entries.{meaning, inTable, entryOfGrain, grainSectors, anyBelow}
 use Rattle.format.specs.Areas.{ifThere, named, redundantTables, areas, runsPast, shares, sharesAny, meet}
-use Rattle.format.specs.Check.{misplaced, lowestFrom, copyDiffers, copiesDiffer, unlessGrain, checkApart, checkCopies}
-use Rattle.format.specs.Check.{checkGrains, checkLayout, checkFrom}
+use Rattle.format.specs.Check.{misplaced, lowestMisplaced, lowestFrom, copyDiffers, copiesDiffer, unlessGrain, checkApart}
+use Rattle.format.specs.Check.{checkCopies, checkGrains, checkLayout, checkFrom}
 use Rattle.format.specs.Mend.{fromGood, overTable, mendedBelow, kindsDiffer, isRefused, unmendable, changeOf, changes}
 use Rattle.format.specs.Mend.{mendedIfRoom, mendGood, mendFrom, mend, afterMend, mendedImage, mendedList}
 use Rattle.format.specs.declared.Side.the-variants.{Primary, Redundant}
+use Rattle.format.specs.declared.MisplacedPart.the-variants.{Descriptor}
 use Rattle.format.specs.declared.Refusal.the-variants.{Misplaced, NotMendable, TooLittleRoom}
 use Rattle.format.specs.declared.MendAnswer.the-variants.{Mended, Refused}
 use Rattle.laws.specs.Images.{with, doubled, differing, small, plainHeader}
@@ -29,7 +30,7 @@ pub mended-examples :
     × (mend differing Redundant 3 ≡ Mended 1)
     × (mend differing Primary 2 ≡ Refused TooLittleRoom)
     -- 8 comes first: the descriptor has one number that is zero
-    × (mend (with 36 8 0 differing) Primary 3 ≡ Refused Misplaced)
+    × (mend (with 36 8 0 differing) Primary 3 ≡ Refused (Misplaced Descriptor))
     -- 40: there is no redundant directory
     × (mend (small 0 0 0 0) Primary 3 ≡ Refused NotMendable)
     -- a table in the one directory, 1 in the other
@@ -40,7 +41,7 @@ pub mended-examples :
     × (mend (with 1540 4 4 doubled) Primary 3 ≡ Refused NotMendable)
     × (mend (with 1540 4 4 doubled) Primary 0 ≡ Refused NotMendable)
     × (mend (with 1540 4 4 doubled) Redundant 3 ≡ Mended 1)
-unfolding pick powerUpTo leAt leBytes sameAt over zeros rows grains directoryEntries directorySectors kdmvFields kdmvFault kdmvHeader directoryOf headerOf unlessFault withFooter judgeKdmv judge meaning inTable entryOfGrain grainSectors anyBelow ifThere named redundantTables areas runsPast shares sharesAny meet misplaced lowestFrom copyDiffers copiesDiffer unlessGrain checkApart checkCopies checkGrains checkLayout checkFrom fromGood overTable mendedBelow kindsDiffer isRefused unmendable changeOf mendedIfRoom mendGood mendFrom
+unfolding pick powerUpTo leAt leBytes sameAt over zeros rows grains directoryEntries directorySectors kdmvFields kdmvFault kdmvHeader directoryOf headerOf unlessFault withFooter judgeKdmv judge meaning inTable entryOfGrain grainSectors anyBelow ifThere named redundantTables areas runsPast shares sharesAny meet misplaced lowestMisplaced lowestFrom copyDiffers copiesDiffer unlessGrain checkApart checkCopies checkGrains checkLayout checkFrom fromGood overTable mendedBelow kindsDiffer isRefused unmendable changeOf mendedIfRoom mendGood mendFrom
 mended-examples = (refl, refl, refl, refl, refl, refl, refl, refl, refl, refl, refl)
 
 -- the image and the list after it: grain, old entry, new entry, and a word that keeps its content

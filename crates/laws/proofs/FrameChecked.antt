@@ -7,7 +7,7 @@ use mathlib.Core.Bool.{Bool, true, false}
 use native.Mathlib.Omega.{arith}
 use Rattle.base.specs.Pick.{pick}
 use Rattle.format.specs.Header.{judge}
-use Rattle.format.specs.Check.{misplaced, lowestPast, lowestBadMarker, copiesDiffer, unlessGrain}
+use Rattle.format.specs.Check.{misplaced, lowestMisplaced, lowestPast, lowestBadMarker, copiesDiffer, unlessGrain}
 use Rattle.format.specs.Check.{checkApart, checkCopies, checkGrains}
 use Rattle.format.specs.Check.{checkLayout, checkFrom, check}
 use Rattle.format.specs.Areas.{areas, meet}
@@ -55,9 +55,9 @@ unfolding checkFrom checkLayout frameFrom pick
 frame-from-check s room r (unknown q) low e = let same : q ≡ r = cc in ap Refused same
 frame-from-check s room r (Known h) low e = by (misplaced s h) e
   where
-    by : (b : Bool) → pick b (unaccepted Misplaced) (checkGrains s h) ≡ unaccepted r
-        → pick b (Refused Misplaced) (listedIfRoom room (frameCount s h)) ≡ Refused r
-    by true q = let same : Misplaced ≡ r = cc in ap Refused same
+    by : (b : Bool) → pick b (unaccepted (Misplaced (lowestMisplaced s h))) (checkGrains s h) ≡ unaccepted r
+        → pick b (Refused (Misplaced (lowestMisplaced s h))) (listedIfRoom room (frameCount s h)) ≡ Refused r
+    by true q = let same : Misplaced (lowestMisplaced s h) ≡ r = cc in ap Refused same
     by false q = absurd (omega (arith, not-late (checkGrains s h) r (late-grains s h) q))
 
 pub frame-as-check : (s : List ℕ) (room : ℕ) (r : Refusal) → number r ≤ 8 → check s ≡ unaccepted r → frame s room ≡ Refused r
@@ -71,9 +71,10 @@ check-from-frame s room r (unknown q) other e = let same : q ≡ r = cc in ap un
 check-from-frame s room r (Known h) other e = by (misplaced s h) (ltb room (3 * frameCount s h)) e
   where
     by : (b short : Bool)
-        → pick b (Refused Misplaced) (pick short (Refused TooLittleRoom) (Listed (frameCount s h))) ≡ Refused r
-        → pick b (unaccepted Misplaced) (checkGrains s h) ≡ unaccepted r
-    by true short q = let same : Misplaced ≡ r = cc in ap unaccepted same
+        → pick b (Refused (Misplaced (lowestMisplaced s h)))
+        (pick short (Refused TooLittleRoom) (Listed (frameCount s h))) ≡ Refused r
+        → pick b (unaccepted (Misplaced (lowestMisplaced s h))) (checkGrains s h) ≡ unaccepted r
+    by true short q = let same : Misplaced (lowestMisplaced s h) ≡ r = cc in ap unaccepted same
     by false true q = let same : TooLittleRoom ≡ r = cc in absurd (other (sym same))
     by false false q = let n : _≡_ {A = ℕ} 0 1 = cc in absurd (omega arith)
 

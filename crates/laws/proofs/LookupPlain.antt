@@ -14,6 +14,7 @@ use Rattle.format.specs.Source.{entrySource, sourceOf, lookupGrain, lookupEntry
 use Rattle.format.specs.declared.Header.{Header}
 use Rattle.format.specs.declared.Entry.{Entry}
 use Rattle.format.specs.declared.Entry.the-variants.{Absent, Zero, Sector}
+use Rattle.format.specs.declared.MisplacedPart.the-variants.{Directory, PrimaryTable}
 use Rattle.format.specs.declared.Refusal.the-variants.{Misplaced, GrainPast, Marker, SectorPast}
 use Rattle.format.specs.declared.LookupAnswer.{LookupAnswer}
 use Rattle.format.specs.declared.LookupAnswer.the-variants.{Found, Refused}
@@ -44,7 +45,7 @@ module _ (s : List ℕ) (h : Header) (g o : ℕ) where
       rw (past-one (fileSectors s) (area e (grainSectors s (h .packed) (h .«grain_size») e)))
 
   table-judged : (d : Entry) → lookupTable s h g o d
-      ≡ pick (runsPast (fileSectors s) (named (λ e. h .«table_sectors») d)) (Refused Misplaced)
+      ≡ pick (runsPast (fileSectors s) (named (λ e. h .«table_sectors») d)) (Refused (Misplaced PrimaryTable))
       (judged (inTable s (h .«one_is_zero») (g % h .«entries_per_table») d))
   unfolding pick named runsPast markerBrokenAt entrySource inTable lookupTable
   table-judged Absent = rw (and-false (h .packed))
@@ -58,13 +59,13 @@ module _ (s : List ℕ) (h : Header) (g o : ℕ) where
 
 pub lookup-plain : (s : List ℕ) (h : Header) (x : ℕ) → lookupIn s h x
     ≡ pick (leb (h .capacity) x) (Refused SectorPast)
-    (pick (directoryMisplaced (fileSectors s) h) (Refused Misplaced)
-    (pick (tablePast s h (x / h .«grain_size»)) (Refused Misplaced)
+    (pick (directoryMisplaced (fileSectors s) h) (Refused (Misplaced Directory))
+    (pick (tablePast s h (x / h .«grain_size»)) (Refused (Misplaced PrimaryTable))
     (pick (grainPast s h (x / h .«grain_size»)) (Refused (GrainPast (x / h .«grain_size»)))
     (pick (badMarker s h (x / h .«grain_size»)) (Refused (Marker (x / h .«grain_size»))) (Found (sourceOf s h x))))))
 unfolding lookupIn entryOfGrain
 lookup-plain s h x =
     ap (λ a. pick (leb (h .capacity) x) (Refused SectorPast)
-    (pick (directoryMisplaced (fileSectors s) h) (Refused Misplaced) a))
+    (pick (directoryMisplaced (fileSectors s) h) (Refused (Misplaced Directory)) a))
     (table-judged s h (x / h .«grain_size») (x % h .«grain_size»)
     (meaningAt s (h .«one_is_zero») (h .directory) (x / h .«grain_size» / h .«entries_per_table»)))

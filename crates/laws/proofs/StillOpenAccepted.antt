@@ -52,6 +52,7 @@ module _ (s t : List ℕ) (both : SameBut s t 1648 4) (magic : sameAt s 0 cowdMa
 
   pub else-cowd : SameElse s t
   else-cowd = record {
+    long = both .long;
     number = _;
     judged = cowd-with s t (both .long) (λ i l b. both .before i (omega arith)) (one-magic s magic);
     used = λ h e some.
@@ -88,6 +89,7 @@ module _ (s t : List ℕ) (both : SameButTwice s t) (magic : sameAt s 0 kdmvMagi
 
   pub else-footer : SameElse s t
   else-footer = record {
+    long = both .long;
     number = _;
     judged =
         kdmv-with s t (both .long)

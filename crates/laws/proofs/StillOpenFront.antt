@@ -60,6 +60,7 @@ module _ (s t : List ℕ) (both : SameBut s t 72 1) (kdmv : sameAt s 0 kdmvMagic
   where
     pub else-kdmv : SameElse s t
     else-kdmv = record {
+      long = both .long;
       number = _;
       judged =
           kdmv-with s t (both .long) (λ i l b. both .before i (omega arith)) (λ i l b. both .after i (omega arith)) kdmv

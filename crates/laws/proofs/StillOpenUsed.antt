@@ -13,14 +13,15 @@ use Rattle.base.proofs.Steps.{cond-all, pick-both, true-or-false}
 use Rattle.format.specs.Geometry.{fileSectors}
 use Rattle.format.specs.Header.{headerOf, judge}
 use Rattle.format.specs.Areas.{areas, redundantTables}
-use Rattle.format.specs.Check.{directoryMisplaced, misplaced, copiesDiffer, checkApart, checkCopies, checkGrains, checkLayout}
-use Rattle.format.specs.Check.{checkFrom, check}
+use Rattle.format.specs.Check.{descriptorMisplaced, directoryMisplaced, misplaced, lowestMisplaced, copiesDiffer, checkApart}
+use Rattle.format.specs.Check.{checkCopies, checkGrains, checkLayout, checkFrom, check}
 use Rattle.format.specs.Source.{lookupGrain, lookupEntry, lookupTable, lookupIn, lookupFrom, sectorLookup}
 use Rattle.format.specs.Frame.{frameWords, frameAreas, frameFrom, frame, listAfter, frameList}
 use Rattle.format.specs.Survey.{entryKind, grainsOfKind, rowFrom, rowOf}
 use Rattle.format.specs.declared.Header.{Header}
 use Rattle.format.specs.declared.Entry.{Entry}
 use Rattle.format.specs.declared.Entry.the-variants.{Absent, Zero, Sector}
+use Rattle.format.specs.declared.MisplacedPart.the-variants.{Descriptor, Directory}
 use Rattle.format.specs.declared.HeaderAnswer.{HeaderAnswer}
 use Rattle.format.specs.declared.HeaderAnswer.the-variants.{Known, Refused}
 use Rattle.format.specs.declared.CheckAnswer.{CheckAnswer}
@@ -32,7 +33,7 @@ use Rattle.format.proofs.Passed.{header-passed, layout-passed}
 use Rattle.format.proofs.Places.{places-kept}
 use Rattle.laws.specs.Unused.{SameInUse}
 use Rattle.laws.proofs.Counts.{count-same}
-use Rattle.laws.proofs.Unused.{unused-free, misplaced-same, entry-same, frame-areas-same, frame-words-same}
+use Rattle.laws.proofs.Unused.{unused-free, misplaced-same, part-same, entry-same, frame-areas-same, frame-words-same}
 use Rattle.laws.proofs.UnusedLookup.{answer-same, unused-lookup}
 
 -- a header with another number
@@ -63,7 +64,7 @@ answerWith n (Known h) = Known (withDirty n h)
 -- ---- nothing looks at it
 module _ (s : List ℕ) (n : ℕ) (h : Header) where
   check-blind : checkLayout s (withDirty n h) ≡ checkLayout s h
-  unfolding withDirty checkLayout misplaced checkGrains checkCopies checkApart copiesDiffer redundantTables areas
+  unfolding withDirty checkLayout misplaced lowestMisplaced checkGrains checkCopies checkApart copiesDiffer redundantTables areas
   check-blind = refl
 
   entry-blind : (g o : ℕ) (e : Entry) → lookupEntry s (withDirty n h) g o e ≡ lookupEntry s h g o e
@@ -83,7 +84,7 @@ module _ (s : List ℕ) (n : ℕ) (h : Header) where
   lookup-blind x = rw table-blind
 
   frame-blind : (room : ℕ) → frameFrom s room (Known (withDirty n h)) ≡ frameFrom s room (Known h)
-  unfolding withDirty frameFrom misplaced redundantTables frameAreas
+  unfolding withDirty frameFrom misplaced lowestMisplaced redundantTables frameAreas
   frame-blind room = refl
 
   words-blind : frameWords s (withDirty n h) ≡ frameWords s h
@@ -104,8 +105,13 @@ module _ (s : List ℕ) (h : Header) (zero : h .directory ≡ 0) where
   unfolding misplaced
   misplaced-none = cond-all (λ b. b ≡ true) _ _ _ (λ d. refl) (λ d. pick-then _ _ _ (directory-none (fileSectors s)))
 
--- ---- all that decides but that number: the header's other fields and what is read of an image of that header
+  part-none : lowestMisplaced s h ≡ pick (descriptorMisplaced (fileSectors s) h) Descriptor Directory
+  unfolding lowestMisplaced pick
+  part-none = rw (directory-none (fileSectors s))
+
+-- ---- all that decides but that number: the length, the header's other fields and what is read of an image of that header
 pub record SameElse (s t : List ℕ) : Type 0 where
+  pub long : length s ≡ length t
   pub number : ℕ
   pub judged : judge t ≡ answerWith number (judge s)
   pub used : (h : Header) → judge s ≡ Known h → (h .directory ≡ 0 → ⊥) → SameInUse s t h
@@ -117,11 +123,17 @@ module _ (s t : List ℕ) (both : SameElse s t) where
         ⊎-elim (λ z. none (eqb-true (h .directory) 0 z)) (λ z. some (both .used h e (eqb-false (h .directory) 0 z)))
         (true-or-false (eqb (h .directory) 0))
 
+    part-known : lowestMisplaced s h ≡ lowestMisplaced t h
+    part-known =
+        let sound = sound-of s h e in
+        by-directory (λ z. rw (part-none s h z, part-none t h z, both .long))
+        (part-same s t h (sound .sizes .low) (sound .some))
+
     check-known : checkLayout s h ≡ checkLayout t h
     unfolding checkLayout pick
     check-known =
         let sound = sound-of s h e in
-        by-directory (λ z. rw (misplaced-none s h z, misplaced-none t h z))
+        by-directory (λ z. rw (misplaced-none s h z, misplaced-none t h z, part-known))
         (unused-free s t h (sound .sizes .low) (sound .some))
 
     lookup-known : (x : ℕ) → lookupIn s h x ≡ lookupIn t h x
@@ -163,7 +175,8 @@ module _ (s t : List ℕ) (both : SameElse s t) where
     frame-known : (room : ℕ) → frameFrom s room (Known h) ≡ frameFrom t room (Known h)
     unfolding frameFrom
     frame-known room =
-        rw (← misplaced-known) (pick-both _≡_ (misplaced s h) _ _ _ _ (λ q. refl) (λ kept. rw (areas-kept kept)))
+        rw (← misplaced-known, ← part-known)
+        (pick-both _≡_ (misplaced s h) _ _ _ _ (λ q. refl) (λ kept. rw (areas-kept kept)))
 
     list-known : (room : ℕ) (list : List ℕ) → listAfter (frameFrom s room (Known h)) (frameWords s h) list
         ≡ listAfter (frameFrom t room (Known h)) (frameWords t h) list

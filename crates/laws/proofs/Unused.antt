@@ -18,7 +18,8 @@ use Rattle.format.specs.Entries.{grainSectors, markerBroken}
 use Rattle.format.specs.Areas.{Area, named, tableAreas, primaryTables, redundantTables, grainArea, areas}
 use Rattle.format.specs.Areas.{runsPast}
 use Rattle.format.specs.Frame.{frameWords, frameAreas}
-use Rattle.format.specs.Check.{directoryMisplaced, redundantDirectoryMisplaced, entryDiffers, misplaced, grainPast}
+use Rattle.format.specs.Check.{descriptorMisplaced, directoryMisplaced, redundantDirectoryMisplaced, primaryTablesMisplaced}
+use Rattle.format.specs.Check.{redundantTablesMisplaced, misplaced, lowestMisplaced, entryDiffers, grainPast}
 use Rattle.format.specs.Check.{markerBrokenAt, lowestPast, lowestBadMarker, copyDiffers, copiesDiffer, unlessGrain}
 use Rattle.format.specs.Check.{checkApart, checkCopies, checkGrains, checkLayout}
 use Rattle.format.specs.declared.Header.{Header}
@@ -26,6 +27,8 @@ use Rattle.format.specs.declared.Entry.{Entry}
 use Rattle.format.specs.declared.Entry.the-variants.{Absent, Zero, Sector}
 use Rattle.format.specs.declared.Lowest.{Lowest}
 use Rattle.format.specs.declared.Lowest.the-variants.{None, Grain}
+use Rattle.format.specs.declared.MisplacedPart.the-variants.{Descriptor, Directory, RedundantDirectory}
+use Rattle.format.specs.declared.MisplacedPart.the-variants.{PrimaryTable, RedundantTable}
 use Rattle.format.specs.declared.Refusal.{Refusal}
 use Rattle.format.specs.declared.CheckAnswer.{CheckAnswer}
 use Rattle.format.proofs.Geometry.{entry-used}
@@ -81,21 +84,37 @@ module _ (s t : List ℕ) (h : Header) (one : 1 ≤ h .«grain_size») (per : 1 
         let two = eqb-false _ _ n in
         tables-same s t h (h .redundant) (same .copies two) (redundant-in (fileSectors s) h e two))
 
-    -- a table of either past F
-    abbrev tablesPast : List ℕ → Bool
-    tablesPast u = pick (runsPast (fileSectors s) (primaryTables u h)) true (runsPast (fileSectors s) (redundantTables u h))
+    -- what is told of the first part that is misplaced, and where none of the first four is
+    abbrev byPart : {A : Type 0} → A → A → A → A → (List ℕ → A) → List ℕ → A
+    byPart w x y z last u =
+        pick (descriptorMisplaced (fileSectors u) h) w
+        (pick (directoryMisplaced (fileSectors u) h) x
+        (pick (redundantDirectoryMisplaced (fileSectors u) h) y (pick (primaryTablesMisplaced u h) z (last u))))
 
-    tables-past-same : directoryMisplaced (fileSectors s) h ≡ false → redundantDirectoryMisplaced (fileSectors s) h ≡ false
-        → tablesPast s ≡ tablesPast t
-    tables-past-same i e =
-        rw (tables-same s t h (h .directory) (same .primary) (directory-in (fileSectors s) h i), redundant-same e)
+    tables-past-same : {A : Type 0} (z : A) (last : List ℕ → A) → directoryMisplaced (fileSectors s) h ≡ false
+        → last s ≡ last t → pick (runsPast (fileSectors s) (primaryTables s h)) z (last s)
+        ≡ pick (runsPast (fileSectors s) (primaryTables t h)) z (last t)
+    tables-past-same z last i e =
+        rw (tables-same s t h (h .directory) (same .primary) (directory-in (fileSectors s) h i), e)
+
+    parts-same : {A : Type 0} (w x y z : A) (last : List ℕ → A)
+        → (redundantDirectoryMisplaced (fileSectors s) h ≡ false → last s ≡ last t) → byPart w x y z last s
+        ≡ byPart w x y z last t
+    parts-same w x y z last f =
+        rw (← same .long)
+        (pick-both _≡_ _ _ _ _ _ (λ q. refl)
+        (λ a.
+        pick-both _≡_ _ _ _ _ _ (λ q. refl)
+        (λ b. pick-both _≡_ _ _ _ _ _ (λ q. refl) (λ c. tables-past-same z last b (f c)))))
 
     pub misplaced-same : misplaced s h ≡ misplaced t h
     unfolding misplaced
     misplaced-same =
-        rw (← same .long)
-        (pick-both _≡_ _ _ _ _ _ (λ q. refl)
-        (λ a. pick-both _≡_ _ _ _ _ _ (λ q. refl) (λ b. pick-both _≡_ _ _ _ _ _ (λ q. refl) (tables-past-same b))))
+        parts-same true true true true (λ u. redundantTablesMisplaced u h) (λ e. rw (← same .long, redundant-same e))
+
+    pub part-same : lowestMisplaced s h ≡ lowestMisplaced t h
+    unfolding lowestMisplaced
+    part-same = parts-same Descriptor Directory RedundantDirectory PrimaryTable (λ u. RedundantTable) (λ e. refl)
 
     -- ---- where nothing is misplaced, tables are read in the file
     module _ (p : Places s h) where
@@ -206,4 +225,6 @@ module _ (s t : List ℕ) (h : Header) (one : 1 ≤ h .«grain_size») (per : 1 
 
     pub unused-free : checkLayout s h ≡ checkLayout t h
     unfolding checkLayout
-    unused-free = rw (← misplaced-same) (pick-both _≡_ _ _ _ _ _ (λ q. refl) (λ n. grains-same (places-kept s h n)))
+    unused-free =
+        rw (← misplaced-same, ← part-same)
+        (pick-both _≡_ _ _ _ _ _ (λ q. refl) (λ n. grains-same (places-kept s h n)))

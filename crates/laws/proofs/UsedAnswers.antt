@@ -23,7 +23,7 @@ use Rattle.format.proofs.Passed.{layout-passed}
 use Rattle.laws.proofs.AcceptedImage.{accepted-sound}
 use Rattle.laws.proofs.ServedSectors.{accepted-good}
 use Rattle.laws.proofs.Counts.{count-same}
-use Rattle.laws.proofs.Unused.{unused-free, misplaced-same, entry-same, frame-areas-same, frame-words-same}
+use Rattle.laws.proofs.Unused.{unused-free, misplaced-same, part-same, entry-same, frame-areas-same, frame-words-same}
 use Rattle.laws.proofs.UnusedLookup.{SameAnswer, refused, answer-same, unused-lookup}
 
 module _ (s t : List ℕ) (both : SameUsed s t) where
@@ -52,7 +52,10 @@ module _ (s t : List ℕ) (both : SameUsed s t) where
   frame-from room (Known h) e =
       let sound = sound-of s h e in
       let used = both .used h e in
-      rw (← misplaced-same s t h (sound .sizes .low) (sound .some) used)
+      rw (
+        ← misplaced-same s t h (sound .sizes .low) (sound .some) used,
+        ← part-same s t h (sound .sizes .low) (sound .some) used,
+      )
       (pick-both _≡_ (misplaced s h) _ _ _ _ (λ q. refl)
       (λ n. rw (frame-areas-same s t h (sound .sizes .low) (sound .some) used (places-kept s h n))))
 

@@ -8,6 +8,7 @@ use format::Entry;
 use format::Header;
 use format::HeaderAnswer;
 use format::LookupAnswer;
+use format::MisplacedPart;
 use format::Refusal;
 use format::Source;
 
@@ -19,7 +20,7 @@ fn in_table(image: &[u8], h: Header, g: u64, o: u64, t: u64) -> LookupAnswer
     ensures { λ r. ⌜ r ≡ lookupTable (now (image .entry)) h g o (Sector t) ⌝ }
 {
     if entries::table_past(image, t, h.table_sectors) {
-        return LookupAnswer::Refused(Refusal::Misplaced);
+        return LookupAnswer::Refused(Refusal::Misplaced(MisplacedPart::PrimaryTable));
     }
     let k = g % h.entries_per_table;
     let entry = entries::meaning_at(image, h.one_is_zero, t, k);
@@ -47,7 +48,7 @@ fn lookup_in(image: &[u8], h: Header, sector: u64) -> LookupAnswer
         return LookupAnswer::Refused(Refusal::SectorPast);
     }
     if entries::directory_misplaced(image, h) {
-        return LookupAnswer::Refused(Refusal::Misplaced);
+        return LookupAnswer::Refused(Refusal::Misplaced(MisplacedPart::Directory));
     }
     let g = sector / h.grain_size;
     let d = g / h.entries_per_table;

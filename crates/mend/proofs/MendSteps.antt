@@ -10,12 +10,13 @@ use Rattle.base.specs.Bytes.{over}
 use Rattle.base.specs.Pick.{pick}
 use Rattle.format.specs.Header.{judge}
 use Rattle.format.specs.Areas.{meet}
-use Rattle.format.specs.Check.{misplaced}
+use Rattle.format.specs.Check.{misplaced, lowestMisplaced}
 use Rattle.format.specs.Mend.{fromGood, mended, directoriesDiffer, areasKeptApart, unmendable, changes, mendedIfRoom, mendGood}
 use Rattle.format.specs.Mend.{mendFrom, mend, afterMend, mendedImage, mendedList}
 use Rattle.format.specs.Judged.{Sided}
 use Rattle.format.specs.declared.Header.{Header}
 use Rattle.format.specs.declared.Side.{Side}
+use Rattle.format.specs.declared.MisplacedPart.{MisplacedPart}
 use Rattle.format.specs.declared.Refusal.{Refusal}
 use Rattle.format.specs.declared.Refusal.the-variants.{Misplaced, NotMendable, TooLittleRoom}
 use Rattle.format.specs.declared.HeaderAnswer.{HeaderAnswer}
@@ -63,9 +64,10 @@ module _ (s : List ℕ) (g : Header) (l : List ℕ) {b : Bool} (e : b ≡ unmend
 
 -- ---- 8, and whether there is a redundant directory
 module _ (s : List ℕ) (h : Header) (side : Side) (l : List ℕ) {b : Bool} (e : b ≡ misplaced s h) where
-  pub misplaced-told : b ≡ true → MendTold (mendFrom s side (length l) (Known h)) s (fromGood side h) l (Refused Misplaced) s l
+  pub misplaced-told : b ≡ true → {p : MisplacedPart} → p ≡ lowestMisplaced s h
+      → MendTold (mendFrom s side (length l) (Known h)) s (fromGood side h) l (Refused (Misplaced p)) s l
   unfolding mendFrom pick
-  misplaced-told t = refusal-told _ s _ l Misplaced (rw (← e, t))
+  misplaced-told t {p} low = refusal-told _ s _ l (Misplaced p) (rw (← e, t, ← low))
 
   module _ (f : b ≡ false) where
     pub single-told : h .redundant ≡ 0

@@ -112,7 +112,7 @@ fn mend_known(image: &mut [u8], h: Header, side: Side, list: &mut [u64]) -> Mend
         (fromGood side h) (now (list .entry)) r (now (image .exit)) (now (list .exit)) ⌝ }
 {
     if places::misplaced(&*image, h) {
-        return MendAnswer::Refused(Refusal::Misplaced);
+        return MendAnswer::Refused(Refusal::Misplaced(places::lowest_misplaced(&*image, h)));
     }
     if h.redundant == 0 {
         return MendAnswer::Refused(Refusal::NotMendable);

@@ -7,7 +7,7 @@ ghost use Rattle.format.specs.Geometry.{fileSectors};
 ghost use Rattle.format.specs.Entries.{meaningAt};
 ghost use Rattle.format.specs.Areas.{named, tableAreas, runsPast};
 ghost use Rattle.format.specs.Check.{descriptorMisplaced, directoryMisplaced, redundantDirectoryMisplaced};
-ghost use Rattle.format.specs.Check.{primaryTablesMisplaced, redundantTablesMisplaced, misplaced};
+ghost use Rattle.format.specs.Check.{primaryTablesMisplaced, redundantTablesMisplaced, misplaced, lowestMisplaced};
 ghost use Rattle.format.specs.Judged.{Sound};
 use entries::directory_misplaced;
 use entries::file_sectors;
@@ -15,6 +15,7 @@ use entries::meaning_at;
 use entries::table_past;
 use format::Entry;
 use format::Header;
+use format::MisplacedPart;
 use sizes::directory_entries;
 
 // One descriptor number zero and one not, or the descriptor past F.
@@ -113,4 +114,24 @@ pub fn misplaced(image: &[u8], h: Header) -> bool
         return true;
     }
     redundant_tables_misplaced(image, h)
+}
+
+// The lowest part that is misplaced, where one is. It is asked after 8 was found, so that an accepted image pays nothing for it.
+pub fn lowest_misplaced(image: &[u8], h: Header) -> MisplacedPart
+    requires { ⌜ Sound h ⌝ }
+    ensures { λ r. ⌜ r ≡ lowestMisplaced (now (image .entry)) h ⌝ }
+{
+    if descriptor_misplaced(image, h) {
+        return MisplacedPart::Descriptor;
+    }
+    if directory_misplaced(image, h) {
+        return MisplacedPart::Directory;
+    }
+    if redundant_directory_misplaced(image, h) {
+        return MisplacedPart::RedundantDirectory;
+    }
+    if primary_tables_misplaced(image, h) {
+        return MisplacedPart::PrimaryTable;
+    }
+    MisplacedPart::RedundantTable
 }

@@ -9,6 +9,7 @@ judge-layout-spec =
     tie.close
     (tie.spec
     (λ misplaced-requires κs. search sound-of)
+    (λ lowest-misplaced-requires κs. search sound-of)
     (λ returns. search places-broken)
     (λ judge-grains-requires κs. search placed-of)
     (λ returns-2. search places-kept))

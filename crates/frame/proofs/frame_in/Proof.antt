@@ -9,6 +9,7 @@ frame-in-spec =
     tie.close
     (tie.spec
     (λ misplaced-requires κs. search sound-of)
+    (λ lowest-misplaced-requires κs. search sound-of)
     (λ returns. search misplaced-told)
     (λ list-areas-requires κs. search placed-of)
     (λ same-length. search needs)

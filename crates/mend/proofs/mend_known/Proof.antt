@@ -9,6 +9,7 @@ mend-known-spec =
     tie.close
     (tie.spec
     (λ misplaced-requires κs. search sound-of)
+    (λ lowest-misplaced-requires κs. search sound-of)
     (λ same-length. search needs)
     (λ returns. search misplaced-told)
     (λ same-length-2. search needs)
