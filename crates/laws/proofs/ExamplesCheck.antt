@@ -24,6 +24,7 @@ use Rattle.format.specs.Check.{checkCopies, checkGrains, checkLayout, checkFrom
 use Rattle.format.specs.Accepted.{FooterRules}
 use Rattle.format.specs.declared.Header.{Header}
 use Rattle.format.specs.declared.Entry.the-variants.{Absent, Zero, Sector}
+use Rattle.format.specs.declared.MisplacedPart.{MisplacedPart}
 use Rattle.format.specs.declared.MisplacedPart.the-variants.{Descriptor, Directory, RedundantDirectory}
 use Rattle.format.specs.declared.MisplacedPart.the-variants.{PrimaryTable, RedundantTable}
 use Rattle.format.specs.declared.Refusal.the-variants.{Misplaced, GrainPast, Marker, CopiesDiffer, SharedSector}
@@ -80,6 +81,7 @@ pub copies-checked :
     -- 8: a table of either past F
     × (check (with 512 4 9 doubled) ≡ Refused (Misplaced PrimaryTable))
     × (check (with 1024 4 9 doubled) ≡ Refused (Misplaced RedundantTable))
+    × (check (with 512 4 9 (with 1024 4 9 doubled)) ≡ Refused (Misplaced PrimaryTable))
     -- 9: grain 1 past F, before 11
     × (check (with 1540 4 5 doubled) ≡ Refused (GrainPast 1))
     -- 11: the copies differ in grain 1, before 12; the next entry is not in use
@@ -93,6 +95,7 @@ copies-checked =
       checked doubled h refl,
       checked (with 512 4 9 doubled) h refl,
       checked (with 1024 4 9 doubled) h refl,
+      checked (with 512 4 9 (with 1024 4 9 doubled)) h refl,
       checked (with 1540 4 5 doubled) h refl,
       checked (with 1540 4 2 doubled) h refl,
       checked (with 1544 4 2 doubled) h refl,
@@ -139,6 +142,20 @@ tests =
 pub tests-hold : Hold tests
 unfolding pick leAt leBytes markerBroken anyBelow ifThere runsPast copyDiffers
 tests-hold = refl
+
+-- 8 names the lowest part: one number of the descriptor zero comes before directory sector 0, and that before a redundant
+-- directory past F
+abbrev lowest : List (Example MisplacedPart)
+lowest =
+    example (lowestMisplaced doubled (plainHeader 0 1 0 12)) Descriptor
+    ∷ example (lowestMisplaced doubled (plainHeader 11 0 0 12)) Descriptor
+    ∷ example (lowestMisplaced doubled (plainHeader 11 1 0 12)) Directory
+    ∷ example (lowestMisplaced doubled (plainHeader 11 1 1 12)) RedundantDirectory
+    ∷ []
+
+pub lowest-named : Hold lowest
+unfolding pick leAt leBytes over zeros ifThere runsPast lowestMisplaced
+lowest-named = refl
 
 -- 513 grains of 8 sectors: 512 entries of table 0 are in use, and one of table 1
 abbrev counts : List (Example ℕ)

@@ -48,17 +48,26 @@ not-late : (a : CheckAnswer) (r : Refusal) → Late a → a ≡ unaccepted r →
 not-late (Accepted c size) r w e = let n : _≡_ {A = ℕ} 0 1 = cc in absurd (omega arith)
 not-late (unaccepted q) r (late high) e = let same : q ≡ r = cc in rw same at high
 
+pub grains-late : (s : List ℕ) (h : Header) (r : Refusal) → checkGrains s h ≡ unaccepted r → 9 ≤ number r
+grains-late s h r e = not-late (checkGrains s h) r (late-grains s h) e
+
+-- ---- a call that judges 8 as the check does hands 8 on, whatever it does next
+pub layout-handed : {A : Type 0} (refused : Refusal → A) (s : List ℕ) (h : Header) (r : Refusal) (next : A) → number r ≤ 8
+    → checkLayout s h ≡ unaccepted r → pick (misplaced s h) (refused (Misplaced (lowestMisplaced s h))) next ≡ refused r
+unfolding checkLayout pick
+layout-handed refused s h r next low e = by (misplaced s h) e
+  where
+    by : (b : Bool) → pick b (unaccepted (Misplaced (lowestMisplaced s h))) (checkGrains s h) ≡ unaccepted r
+        → pick b (refused (Misplaced (lowestMisplaced s h))) next ≡ refused r
+    by true q = let same : Misplaced (lowestMisplaced s h) ≡ r = cc in ap refused same
+    by false q = absurd (omega (arith, grains-late s h r q))
+
 -- ---- where the check is refused 1 to 8, so is the frame
 frame-from-check : (s : List ℕ) (room : ℕ) (r : Refusal) (a : HeaderAnswer) → number r ≤ 8 → checkFrom s a ≡ unaccepted r
     → frameFrom s room a ≡ Refused r
-unfolding checkFrom checkLayout frameFrom pick
+unfolding checkFrom frameFrom
 frame-from-check s room r (unknown q) low e = let same : q ≡ r = cc in ap Refused same
-frame-from-check s room r (Known h) low e = by (misplaced s h) e
-  where
-    by : (b : Bool) → pick b (unaccepted (Misplaced (lowestMisplaced s h))) (checkGrains s h) ≡ unaccepted r
-        → pick b (Refused (Misplaced (lowestMisplaced s h))) (listedIfRoom room (frameCount s h)) ≡ Refused r
-    by true q = let same : Misplaced (lowestMisplaced s h) ≡ r = cc in ap Refused same
-    by false q = absurd (omega (arith, not-late (checkGrains s h) r (late-grains s h) q))
+frame-from-check s room r (Known h) low e = layout-handed Refused s h r _ low e
 
 pub frame-as-check : (s : List ℕ) (room : ℕ) (r : Refusal) → number r ≤ 8 → check s ≡ unaccepted r → frame s room ≡ Refused r
 frame-as-check s room r low e = frame-from-check s room r (judge s) low e

@@ -66,6 +66,8 @@ pub mod FrameDecides
 pub mod SurveyCounts
 pub mod SurveyRows
 pub mod FrameChecked
+pub mod Misplaced
+pub mod HandedOn
 pub mod NotConstant
 pub mod ExamplesAnswers
 pub mod ExamplesChain

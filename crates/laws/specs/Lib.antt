@@ -8,5 +8,6 @@ pub mod StillOpen
 pub mod Mended
 pub mod Images
 pub mod FirstMeeting
+pub mod Misplaced
 pub mod Examples
 pub mod ExampleLayers
