@@ -6,8 +6,8 @@ use mathlib.Core.Bool.{Bool, true, false}
 use Rattle.base.specs.Pick.{pick}
 use Rattle.base.proofs.Steps.{cond-all}
 use Rattle.format.specs.Areas.{areas, meet}
-use Rattle.format.specs.Check.{misplaced, lowestMisplaced, lowestPast, lowestBadMarker, copiesDiffer, unlessGrain}
-use Rattle.format.specs.Check.{checkApart, checkCopies, checkGrains, checkLayout}
+use Rattle.format.specs.Check.{misplaced, lowestMisplaced, copiesDiffer, unlessGrain, checkApart, checkCopies, checkGrains}
+use Rattle.format.specs.Check.{checkLayout}
 use Rattle.format.specs.CheckIn.{cameToMarking}
 use Rattle.format.specs.declared.Header.{Header}
 use Rattle.format.specs.declared.Lowest.{Lowest}

@@ -16,6 +16,7 @@ pub mod HeaderJudged
 pub mod HeaderSound
 pub mod HeaderRefusals
 pub mod Places
+pub mod LowestPart
 pub mod CameToMarking
 pub mod Filed
 pub mod Passed

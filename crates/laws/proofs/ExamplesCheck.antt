@@ -18,8 +18,8 @@ use Rattle.format.specs.Entries.{meaning, inTable, entryOfGrain, entriesInUse, 
 use Rattle.format.specs.Areas.{Area, area, ifThere, named, headerArea, descriptorArea, directoryArea, redundantArea}
 use Rattle.format.specs.Areas.{primaryTables, redundantTables, footerArea, lastArea, areas, runsPast, shares, sharesAny}
 use Rattle.format.specs.Areas.{meet}
-use Rattle.format.specs.Check.{descriptorMisplaced, directoryMisplaced, redundantDirectoryMisplaced}
-use Rattle.format.specs.Check.{misplaced, lowestMisplaced, lowestFrom, markerBrokenAt, copyDiffers, copiesDiffer, unlessGrain, checkApart}
+use Rattle.format.specs.Check.{descriptorMisplaced, directoryMisplaced, redundantDirectoryMisplaced, misplaced, lowestMisplaced}
+use Rattle.format.specs.Check.{lowestFrom, markerBrokenAt, copyDiffers, copiesDiffer, unlessGrain, checkApart}
 use Rattle.format.specs.Check.{checkCopies, checkGrains, checkLayout, checkFrom, check}
 use Rattle.format.specs.Accepted.{FooterRules}
 use Rattle.format.specs.declared.Header.{Header}

@@ -24,7 +24,6 @@ use Rattle.format.specs.declared.Refusal.{Refusal}
 use Rattle.format.specs.declared.Refusal.the-variants.{Misplaced, NotMendable}
 use Rattle.format.specs.declared.HeaderAnswer.{HeaderAnswer}
 use Rattle.format.specs.declared.HeaderAnswer.the-variants.{Known, Refused as unknown}
-use Rattle.format.specs.declared.CheckAnswer.{CheckAnswer}
 use Rattle.format.specs.declared.CheckAnswer.the-variants.{Accepted, Refused as unaccepted}
 use Rattle.format.specs.declared.LookupAnswer.{LookupAnswer}
 use Rattle.format.specs.declared.LookupAnswer.the-variants.{Found as foundIn, Refused as notFound}

@@ -1,23 +1,21 @@
 -- Refusal 8 names the lowest part that applies (request A8).
 use Prim.Native.Nat.{ℕ, zero, suc, _+_, _≤_, _<_}
-use mathlib.Core.Path.{_≡_, refl, sym, ap, _∙_}
+use mathlib.Core.Path.{_≡_, refl, sym, _∙_}
 use mathlib.Core.List.{List}
-use mathlib.Core.Bool.{Bool, true, false, not, _&&_, _||_, or-true, true≢false, false≢true}
-use mathlib.Core.Logic.{_⊎_, inl, inr, ⊎-elim}
+use mathlib.Core.Bool.{Bool, true, false, not, _&&_, or-true, false≢true}
+use mathlib.Core.Logic.{⊎-elim}
 use native.Mathlib.Omega.{arith}
-use lib.Dec.{ltb, eqb, lit≤}
-use borrow.Author.Tests.{ltb-true, ltb-false, lt-ltb, eqb-true, eqb-false, eq-eqb, ne-eqb, not-true}
+use lib.Dec.{eqb}
+use borrow.Author.Tests.{ltb-true, lt-ltb, eqb-true, eqb-false, eq-eqb, ne-eqb, not-true}
 use Rattle.base.specs.Pick.{pick}
 use Rattle.base.specs.Rows.{rows}
 use Rattle.base.proofs.Steps.{or-yes, and-yes, true-or-false, lt-or-ge, cond-all}
 use Rattle.format.specs.Geometry.{fileSectors}
 use Rattle.format.specs.Header.{directoryEntriesOf, judge}
-use Rattle.format.specs.Entries.{meaningAt}
 use Rattle.format.specs.Areas.{Area, area, ifThere, named, tableAreas, redundantTables, runsPast}
-use Rattle.format.specs.Check.{descriptorMisplaced, directoryMisplaced, redundantDirectoryMisplaced}
-use Rattle.format.specs.Check.{primaryTablesMisplaced, redundantTablesMisplaced, misplaced, lowestMisplaced}
+use Rattle.format.specs.Check.{descriptorMisplaced, directoryMisplaced, redundantTablesMisplaced, misplaced, lowestMisplaced}
 use Rattle.format.specs.Check.{checkGrains, checkLayout, checkFrom, check}
-use Rattle.format.specs.Answers.{number, partNumber, place, verdict}
+use Rattle.format.specs.Answers.{partNumber, verdict}
 use Rattle.format.specs.declared.Header.{Header}
 use Rattle.format.specs.declared.Entry.{Entry}
 use Rattle.format.specs.declared.Entry.the-variants.{Absent, Zero, Sector}
@@ -32,8 +30,9 @@ use Rattle.format.specs.declared.CheckAnswer.the-variants.{Accepted, Refused}
 use Rattle.format.proofs.Areas.{past-append}
 use Rattle.format.proofs.HeaderRefusals.{judge-refuses}
 use Rattle.format.proofs.Inside.{past-one, none-in, table-in}
-use Rattle.format.proofs.Picked.{pick-then, true-no}
-use Rattle.format.proofs.Places.{directory-in, redundant-in, redundant-tables}
+use Rattle.format.proofs.LowestPart.{partTest, lowest-tested, tested-lowest, tested-misplaced}
+use Rattle.format.proofs.Picked.{pick-then}
+use Rattle.format.proofs.Places.{redundant-tables}
 use Rattle.laws.specs.Misplaced.{DescriptorMisplaced, DirectoryMisplaced, TableMisplaced, Applies, LowestPart}
 use Rattle.laws.specs.Misplaced.DescriptorMisplaced.{sectorZero, sectorsZero, past}
 use Rattle.laws.specs.Misplaced.DirectoryMisplaced.{sectorZero as atZero, past as directoryPast}
@@ -61,69 +60,8 @@ module _ (f : ℕ) where
   named-past sectors Zero e = absurd (false≢true (sym (none-in f) ∙ e))
   named-past sectors (Sector t) e = (t, refl, ltb-true _ _ (sym (past-one f (area t sectors)) ∙ e))
 
--- ---- the first of five tests that holds, and the others
-abbrev among : Bool → Bool → Bool → Bool → Bool → MisplacedPart → Bool
-among a b c d e Descriptor = a
-among a b c d e Directory = b
-among a b c d e RedundantDirectory = c
-among a b c d e PrimaryTable = d
-among a b c d e RedundantTable = e
-
-abbrev anyOf : Bool → Bool → Bool → Bool → Bool → Bool
-anyOf a b c d e = pick a true (pick b true (pick c true (pick d true e)))
-
-abbrev firstOf : Bool → Bool → Bool → Bool → MisplacedPart
-firstOf a b c d =
-    pick a Descriptor (pick b Directory (pick c RedundantDirectory (pick d PrimaryTable RedundantTable)))
-
-first-holds : (a b c d e : Bool) → anyOf a b c d e ≡ true → among a b c d e (firstOf a b c d) ≡ true
-unfolding pick
-first-holds true b c d e any = refl
-first-holds false true c d e any = refl
-first-holds false false true d e any = refl
-first-holds false false false true e any = refl
-first-holds false false false false e any = any
-
-up-to : (n : ℕ) (b : Bool) (p q : MisplacedPart) → partNumber p ≤ n → partNumber q ≤ n → partNumber (pick b p q) ≤ n
-up-to n b p q l m = cond-all (λ part. partNumber part ≤ n) b p q (λ t. l) (λ f. m)
-
-first-low : (a b c d e : Bool) (part : MisplacedPart) → among a b c d e part ≡ true
-    → partNumber (firstOf a b c d) ≤ partNumber part
-unfolding pick
-first-low a b c d e Descriptor t = rw t (lit≤ tt)
-first-low a b c d e Directory t = rw t (up-to 2 a _ _ (lit≤ tt) (lit≤ tt))
-first-low a b c d e RedundantDirectory t = rw t (up-to 3 a _ _ (lit≤ tt) (up-to 3 b _ _ (lit≤ tt) (lit≤ tt)))
-first-low a b c d e PrimaryTable t =
-    rw t (up-to 4 a _ _ (lit≤ tt) (up-to 4 b _ _ (lit≤ tt) (up-to 4 c _ _ (lit≤ tt) (lit≤ tt))))
-first-low a b c d e RedundantTable t =
-    up-to 5 a _ _ (lit≤ tt)
-    (up-to 5 b _ _ (lit≤ tt) (up-to 5 c _ _ (lit≤ tt) (up-to 5 d _ _ (lit≤ tt) (lit≤ tt))))
-
-any-holds : (a b c d e : Bool) (part : MisplacedPart) → among a b c d e part ≡ true → anyOf a b c d e ≡ true
-any-holds a b c d e part t =
-    ⊎-elim (λ y. y)
-    (λ n.
-    let i = true-no a _ n in
-    let j = true-no b _ (i .1) in
-    let k = true-no c _ (j .1) in
-    let m = true-no d e (k .1) in
-    absurd (false≢true (sym (none (i .0) (j .0) (k .0) (m .0) (m .1) part) ∙ t)))
-    (true-or-false (anyOf a b c d e))
-  where
-    none : a ≡ false → b ≡ false → c ≡ false → d ≡ false → e ≡ false → (part : MisplacedPart) → among a b c d e part ≡ false
-    none p q r u v Descriptor = p
-    none p q r u v Directory = q
-    none p q r u v RedundantDirectory = r
-    none p q r u v PrimaryTable = u
-    none p q r u v RedundantTable = v
-
 -- ---- each part by the check's own test for it
 module _ (s : List ℕ) (h : Header) where
-  abbrev tested : MisplacedPart → Bool
-  tested =
-      among (descriptorMisplaced (fileSectors s) h) (directoryMisplaced (fileSectors s) h)
-      (redundantDirectoryMisplaced (fileSectors s) h) (primaryTablesMisplaced s h) (redundantTablesMisplaced s h)
-
   descriptor-applies : descriptorMisplaced (fileSectors s) h ≡ true → DescriptorMisplaced s h
   descriptor-applies e =
       ⊎-elim
@@ -166,7 +104,7 @@ module _ (s : List ℕ) (h : Header) where
       (true-or-false (eqb (h .redundant) 0))
 
   -- a part applies exactly where its test says so
-  applies : (part : MisplacedPart) → tested part ≡ true → Applies s h part
+  applies : (part : MisplacedPart) → partTest s h part ≡ true → Applies s h part
   applies Descriptor e = descriptor-applies e
   applies Directory e = directory-applies e
   applies RedundantDirectory e =
@@ -175,7 +113,7 @@ module _ (s : List ℕ) (h : Header) where
   applies PrimaryTable e = table-applies (h .directory) e
   applies RedundantTable e = copies-apply e
 
-  applied : (part : MisplacedPart) → Applies s h part → tested part ≡ true
+  applied : (part : MisplacedPart) → Applies s h part → partTest s h part ≡ true
   unfolding ifThere pick
   applied Descriptor (sectorZero z n) = rw (eq-eqb _ _ z, ne-eqb _ _ n)
   applied Descriptor (sectorsZero n z) = rw (ne-eqb _ _ n, eq-eqb _ _ z)
@@ -187,17 +125,11 @@ module _ (s : List ℕ) (h : Header) where
   applied RedundantTable p = rw (redundant-tables s h (p .0)) (applied-table (h .redundant) (p .1))
 
   -- ---- the lowest of them
-  some-misplaced : (part : MisplacedPart) → Applies s h part → misplaced s h ≡ true
-  unfolding misplaced
-  some-misplaced part p = any-holds _ _ _ _ _ part (applied part p)
-
   lowest-applies : misplaced s h ≡ true → Applies s h (lowestMisplaced s h)
-  unfolding misplaced lowestMisplaced
-  lowest-applies m = applies (lowestMisplaced s h) (first-holds _ _ _ _ _ m)
+  lowest-applies m = applies (lowestMisplaced s h) (lowest-tested s h m)
 
   none-lower : (part : MisplacedPart) → Applies s h part → partNumber (lowestMisplaced s h) ≤ partNumber part
-  unfolding lowestMisplaced
-  none-lower part p = first-low _ _ _ _ _ part (applied part p)
+  none-lower part p = tested-lowest s h part (applied part p)
 
   grains-other : (a : CheckAnswer) → checkGrains s h ≡ a → verdict a .number ≡ 8 → ⊥
   grains-other (Accepted c size) e n = omega arith
@@ -229,7 +161,7 @@ pub lowest-eight : (s : List ℕ) (p : ℕ) → LowestPart s p
 unfolding checkFrom checkLayout
 lowest-eight s p w =
     let h = w .header in
-    let m = some-misplaced s h (w .part) (w .applies) in
+    let m = tested-misplaced s h (w .part) (applied s h (w .part) (w .applies)) in
     let is : partNumber (lowestMisplaced s h) ≡ p =
     ⊎-elim (λ l. absurd (w .lowest (lowestMisplaced s h) l (lowest-applies s h m)))
     (λ l. let k = none-lower s h (w .part) (w .applies) in let e = w .is in omega arith)

@@ -116,7 +116,7 @@ pub fn misplaced(image: &[u8], h: Header) -> bool
     redundant_tables_misplaced(image, h)
 }
 
-// The lowest part that is misplaced, where one is. It is asked after 8 was found, so that an accepted image pays nothing for it.
+// The lowest part that is misplaced, where one is: asked after 8 was found, so that an accepted image pays nothing for it.
 pub fn lowest_misplaced(image: &[u8], h: Header) -> MisplacedPart
     requires { ⌜ Sound h ⌝ }
     ensures { λ r. ⌜ r ≡ lowestMisplaced (now (image .entry)) h ⌝ }
