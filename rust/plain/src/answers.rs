@@ -12,6 +12,24 @@ pub fn refusal(number: u64) -> Refusal {
     Refusal { number, place: 0 }
 }
 
+/// The areas that refusal 8 is given for; its place is their number, the lowest that applies.
+#[derive(Clone, Copy)]
+pub enum Outside {
+    Descriptor = 1,
+    Directory = 2,
+    RedundantDirectory = 3,
+    PrimaryTable = 4,
+    RedundantTable = 5,
+}
+
+/// Refusal 8 of an area that sticks out.
+pub fn outside(area: Outside) -> Refusal {
+    Refusal {
+        number: 8,
+        place: area as u64,
+    }
+}
+
 /// The full check's answer.
 #[derive(Clone, Copy, Debug, Default, PartialEq, Eq)]
 pub struct Verdict {

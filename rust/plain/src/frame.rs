@@ -1,6 +1,6 @@
 //! The frame: the areas of an image but its grains, in request A6's order. Refusals 1 to 8, then 21.
 
-use crate::answers::{refusal, Framed, Refusal};
+use crate::answers::{outside, refusal, Framed, Outside, Refusal};
 use crate::header::judge;
 use crate::image::{Entry, Image};
 use crate::numbers::past;
@@ -65,24 +65,35 @@ pub fn framed(bytes: &[u8]) -> Result<Image<'_>, Refusal> {
     Ok(image)
 }
 
-/// Refusal 8.
+/// Refusal 8. Areas are judged by their places from 1 to 5, so that the place is the lowest that applies.
 fn judge_areas(image: &Image) -> Result<(), Refusal> {
     let header = &image.header;
-    let f = image.sectors();
-    if (header.descriptor == 0) != (header.descriptor_sectors == 0)
-        || past(header.descriptor, header.descriptor_sectors, f)
-    {
-        return Err(refusal(8));
-    }
+    judge_descriptor(image)?;
     image.judge_directory()?;
-    if header.redundant != 0 && past(header.redundant, header.directory_sectors(), f) {
-        return Err(refusal(8));
+    judge_redundant(image)?;
+    for table in tables(image, header.directory) {
+        image.judge_table(table, Outside::PrimaryTable)?;
     }
-    for directory in [header.directory, header.redundant] {
-        let tables = tables(image, directory);
-        if tables.iter().any(|table| image.table_past(*table)) {
-            return Err(refusal(8));
-        }
+    for table in tables(image, header.redundant) {
+        image.judge_table(table, Outside::RedundantTable)?;
+    }
+    Ok(())
+}
+
+/// The descriptor's part of 8: one number zero and one not, or past F.
+fn judge_descriptor(image: &Image) -> Result<(), Refusal> {
+    let (first, sectors) = (image.header.descriptor, image.header.descriptor_sectors);
+    if (first == 0) != (sectors == 0) || past(first, sectors, image.sectors()) {
+        return Err(outside(Outside::Descriptor));
+    }
+    Ok(())
+}
+
+/// The redundant directory's part of 8: there is one, and it runs past F.
+fn judge_redundant(image: &Image) -> Result<(), Refusal> {
+    let (first, sectors) = (image.header.redundant, image.header.directory_sectors());
+    if first != 0 && past(first, sectors, image.sectors()) {
+        return Err(outside(Outside::RedundantDirectory));
     }
     Ok(())
 }

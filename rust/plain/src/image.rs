@@ -1,6 +1,6 @@
 //! Entries and grains of an image whose header is known.
 
-use crate::answers::{refusal, Refusal};
+use crate::answers::{outside, Outside, Refusal};
 use crate::header::Header;
 use crate::numbers::{number, past, sector, up, whole_sectors, SECTOR};
 use std::ops::Range;
@@ -98,11 +98,6 @@ impl<'a> Image<'a> {
         Some(pairs)
     }
 
-    /// Whether the table at sector `table` runs past F.
-    pub fn table_past(&self, table: u64) -> bool {
-        past(table, self.header.table_sectors(), self.sectors())
-    }
-
     /// A marker's two numbers: first virtual sector and size. Its sector lies below F.
     pub fn marker(&self, at: u64) -> (u64, u64) {
         let bytes = sector(self.bytes, at);
@@ -148,7 +143,15 @@ impl<'a> Image<'a> {
     pub fn judge_directory(&self) -> Result<(), Refusal> {
         let at = self.header.directory;
         if at == 0 || past(at, self.header.directory_sectors(), self.sectors()) {
-            return Err(refusal(8));
+            return Err(outside(Outside::Directory));
+        }
+        Ok(())
+    }
+
+    /// A table's part of 8: the one at sector `table`, of the directory that `side` says, runs past F.
+    pub fn judge_table(&self, table: u64, side: Outside) -> Result<(), Refusal> {
+        if past(table, self.header.table_sectors(), self.sectors()) {
+            return Err(outside(side));
         }
         Ok(())
     }

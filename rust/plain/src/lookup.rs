@@ -1,6 +1,6 @@
 //! Serving sectors: the lookup and the grain reader.
 
-use crate::answers::{refusal, Located, Part, Refusal, ABSENT, PACKED, STORED, ZERO};
+use crate::answers::{refusal, Located, Outside, Part, Refusal, ABSENT, PACKED, STORED, ZERO};
 use crate::header::judge;
 use crate::image::{Entry, Image};
 use crate::numbers::SECTOR;
@@ -14,7 +14,7 @@ pub enum Source {
     Packed { marker: u64, size: u64, offset: u64 },
 }
 
-/// The source of virtual sector `sector`: 1 to 7, 20, 8, 9, 10.
+/// The source of virtual sector `sector`: 1 to 7, 20, 8, 9, 10. Of 8 only places 2 and 4.
 pub fn source(bytes: &[u8], sector: u64) -> Result<Source, Refusal> {
     let image = Image {
         bytes,
@@ -32,9 +32,7 @@ pub fn source(bytes: &[u8], sector: u64) -> Result<Source, Refusal> {
         Entry::Zero => return Ok(Source::Zero),
         Entry::Sector(table) => table,
     };
-    if image.table_past(table) {
-        return Err(refusal(8));
-    }
+    image.judge_table(table, Outside::PrimaryTable)?;
     let at = match image.grain_entry(table, grain) {
         Entry::Absent => return Ok(Source::Absent),
         Entry::Zero => return Ok(Source::Zero),

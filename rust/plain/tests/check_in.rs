@@ -230,6 +230,7 @@ fn refused_images() {
     assert_eq!(refused(&images.pop().unwrap()), 6 + 8);
     for (number, image) in (1..).zip(images) {
         let place = match number {
+            8 => 4,
             9 => 3,
             10 => 2,
             _ => 0,
@@ -238,6 +239,6 @@ fn refused_images() {
     }
     assert_eq!(marked(b""), (1, 0, 0));
     assert_eq!(marked(&kdmv(200, 128, 6)[..511]), (1, 0, 0));
-    assert_eq!(marked(&kdmv(200, 128, 6)[..512]), (8, 0, 0));
-    assert_eq!(marked(&cowd(1, 1, 1, 40)[..2048]), (8, 0, 0));
+    assert_eq!(marked(&kdmv(200, 128, 6)[..512]), (8, 2, 0));
+    assert_eq!(marked(&cowd(1, 1, 1, 40)[..2048]), (8, 2, 0));
 }

@@ -93,6 +93,7 @@ fn after_1_to_11() {
     let images = faulty();
     for (number, image) in (1..).zip(&images[..11]) {
         let place = match number {
+            8 => 4,
             9 => 3,
             10 => 2,
             _ => 0,

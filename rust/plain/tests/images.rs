@@ -29,7 +29,7 @@ fn capacity_200() {
         (verdict.number, verdict.capacity, verdict.grain_size),
         (0, 200, 128)
     );
-    assert_eq!(refused(&kdmv(200, 128, 5)), (8, 0));
+    assert_eq!(refused(&kdmv(200, 128, 5)), (8, 4));
 }
 
 #[test]
@@ -60,7 +60,7 @@ fn directory_of_127_entries() {
     put32(&mut image, 512 + 127 * 4, 99);
     assert!(accepted(&image));
     put32(&mut image, 512 + 126 * 4, 99);
-    assert_eq!(refused(&image), (8, 0));
+    assert_eq!(refused(&image), (8, 4));
 }
 
 #[test]
@@ -76,7 +76,7 @@ fn cowd_tables() {
     assert_eq!(refused(&cowd(4097, 1, 1, 40)), (6, 0));
     assert!(accepted(&cowd(4097, 1, 2, 40)));
     assert!(accepted(&cowd(4096, 1, 1, 37)));
-    assert_eq!(refused(&cowd(4096, 1, 1, 36)), (8, 0));
+    assert_eq!(refused(&cowd(4096, 1, 1, 36)), (8, 4));
     let mut image = cowd(4096, 1, 1, 40);
     put32(&mut image, 5 * 512, 1);
     assert_eq!(refused(&image), (12, 0));
@@ -121,13 +121,14 @@ fn sums_do_not_wrap() {
     for directory in [u64::MAX - 1, u64::MAX - 2] {
         let mut image = kdmv(200, 128, 6);
         put64(&mut image, 56, directory);
-        assert_eq!(refused(&image), (8, 0));
-        assert_eq!(lookup(&image, 0).number, 8);
+        assert_eq!(refused(&image), (8, 2));
+        let found = lookup(&image, 0);
+        assert_eq!((found.number, found.place), (8, 2));
     }
     let mut image = kdmv(200, 128, 6);
     put64(&mut image, 28, u64::MAX);
     put64(&mut image, 36, 2);
-    assert_eq!(refused(&image), (8, 0));
+    assert_eq!(refused(&image), (8, 1));
 }
 
 #[test]
@@ -192,7 +193,7 @@ fn redundant_copies() {
     put32(&mut image, 10 * 512, 2);
     assert_eq!(refused(&image), (12, 0));
     put32(&mut image, 10 * 512, 37);
-    assert_eq!(refused(&image), (8, 0));
+    assert_eq!(refused(&image), (8, 5));
     put32(&mut image, 10 * 512, 1);
     assert_eq!(refused(&image), (11, 0));
 }
@@ -206,7 +207,7 @@ fn short_images() {
     assert_eq!(refused(&cowd(1, 1, 1, 40)[..2047]), (1, 0));
     assert_eq!(header(&cowd(1, 1, 1, 40)[..2048]).capacity, 1);
     assert_eq!(refused(&kdmv(200, 128, 6)[..511]), (1, 0));
-    assert_eq!(refused(&kdmv(200, 128, 6)[..512]), (8, 0));
+    assert_eq!(refused(&kdmv(200, 128, 6)[..512]), (8, 2));
 }
 
 #[test]

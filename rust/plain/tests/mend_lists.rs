@@ -108,7 +108,7 @@ fn headers_and_frames_come_first() {
     let mut image = differing(0);
     put64(&mut image, 12, 2 * 4096);
     put_entries(&mut image, 1, &[2, 37]);
-    assert_eq!(refused(&image, PRIMARY, 0), (8, 0));
+    assert_eq!(refused(&image, PRIMARY, 0), (8, 4));
     put_entries(&mut image, 1, &[2, 36]);
     assert_40(&image, PRIMARY);
     put_entries(&mut image, 10, &[11, 20]);
@@ -118,14 +118,14 @@ fn headers_and_frames_come_first() {
 #[test]
 fn edges_of_8() {
     // A table that ends with the file is answered, and one that ends a sector later is not judged for anything else.
-    for (directory, good) in [(10, PRIMARY), (1, REDUNDANT)] {
+    for (directory, good, place) in [(10, PRIMARY, 5), (1, REDUNDANT, 4)] {
         let mut image = differing(0);
         put32(&mut image, 11 * 512, 1);
         put32(&mut image, 2 * 512, 1);
         put_entries(&mut image, directory, &[36]);
         assert_eq!(changes(&image, good), [[0, 0, 1]]);
         image.truncate(40 * 512 - 1);
-        assert_eq!(refused(&image, good, 3), (8, 0));
+        assert_eq!(refused(&image, good, 3), (8, place));
     }
     // A descriptor up to the end of the file.
     let mut image = differing(1);
@@ -133,9 +133,9 @@ fn edges_of_8() {
     put64(&mut image, 36, 25);
     assert_eq!(changes(&image, PRIMARY).len(), 1);
     put64(&mut image, 36, 26);
-    assert_eq!(refused(&image, PRIMARY, 0), (8, 0));
+    assert_eq!(refused(&image, PRIMARY, 0), (8, 1));
     put64(&mut image, 36, u64::MAX - 14);
-    assert_eq!(refused(&image, PRIMARY, 0), (8, 0));
+    assert_eq!(refused(&image, PRIMARY, 0), (8, 1));
 }
 
 #[test]
@@ -150,32 +150,32 @@ fn numbers_9_to_12_are_no_answer() {
 #[test]
 fn cowd_has_its_own_numbers_first() {
     let sound = cowd(4097, 1, 2, 72);
-    for (at, value, number) in [
-        (4, 2, 3),
-        (12, 0, 6),
-        (16, 3, 6),
-        (24, 1, 6),
-        (20, 0, 8),
-        (20, 72, 8),
-        (4 * 512, 41, 8),
-        (4 * 512 + 4, 41, 8),
+    for (at, value, refusal) in [
+        (4, 2, (3, 0)),
+        (12, 0, (6, 0)),
+        (16, 3, (6, 0)),
+        (24, 1, (6, 0)),
+        (20, 0, (8, 2)),
+        (20, 72, (8, 2)),
+        (4 * 512, 41, (8, 4)),
+        (4 * 512 + 4, 41, (8, 4)),
         // From here on the frame is sound, and it is the magic alone that counts.
-        (4 * 512 + 4, 40, 40),
-        (4 * 512, 0, 40),
-        (5 * 512, 72, 40),
-        (5 * 512, 1, 40),
-        (48, 5, 40),
+        (4 * 512 + 4, 40, (40, 0)),
+        (4 * 512, 0, (40, 0)),
+        (5 * 512, 72, (40, 0)),
+        (5 * 512, 1, (40, 0)),
+        (48, 5, (40, 0)),
     ] {
         let mut image = sound.clone();
         put32(&mut image, at, value);
         for good in [PRIMARY, REDUNDANT] {
             for room in [0, 40] {
-                assert_eq!(refused(&image, good, room), (number, 0), "{at} {value}");
+                assert_eq!(refused(&image, good, room), refusal, "{at} {value}");
             }
         }
     }
     assert_eq!(refused(&sound[..2047], PRIMARY, 0), (1, 0));
-    assert_eq!(refused(&sound[..2048], PRIMARY, 0), (8, 0));
+    assert_eq!(refused(&sound[..2048], PRIMARY, 0), (8, 2));
     assert_40(&sound, PRIMARY);
 }
 

@@ -95,11 +95,11 @@ fn a_directory_entry_of_1() {
         assert_eq!(lookup(&image, 4096), stored(2));
     }
     // The table at sector 1 ends with the file, and its own entry of 1 is a grain past F; or it ends a sector past it.
-    for (sectors, number) in [(5, 9), (4, 8)] {
+    for (sectors, refusal) in [(5, (9, 0)), (4, (8, 4))] {
         let mut image = kdmv(16, 8, sectors);
         put_entries(&mut image, 1, &[1]);
         assert_eq!(refused(&of(&image, [2, 5])), (0, 0));
-        assert_eq!(refused(&of(&image, [1, 1])), (number, 0), "{sectors}");
+        assert_eq!(refused(&of(&image, [1, 1])), refusal, "{sectors}");
     }
 }
 

@@ -142,6 +142,35 @@ fn capacity_and_line() {
     }
 }
 
+/// A KDMV image of three grains, refused 8 with this place.
+fn outside(place: u64) -> Vec<u8> {
+    let mut image = kdmv(20, 8, 30);
+    match place {
+        1 => put64(&mut image, 28, 1),
+        2 => put64(&mut image, 56, 30),
+        3 => put64(&mut image, 48, 30),
+        4 => put_entries(&mut image, 1, &[27]),
+        _ => {
+            put64(&mut image, 48, 7);
+            put_entries(&mut image, 7, &[27]);
+        }
+    }
+    image
+}
+
+#[test]
+fn the_area_that_sticks_out() {
+    for place in 1..=5 {
+        let image = outside(place);
+        assert_eq!(own("RW 20 SPARSE \"a\"", &image), (8, 1, place));
+        // 38 comes after.
+        assert_eq!(own("RW 21 SPARSE \"a\"", &image), (8, 1, place));
+    }
+    let mut image = cowd(20, 1, 1, 37);
+    put_entries(&mut image, 4, &[6]);
+    assert_eq!(own("RW 20 VMFSSPARSE \"a\"", &image), (8, 1, 4));
+}
+
 /// A KDMV image of three grains for each of the check's numbers, with the place.
 fn refused_images() -> Vec<(Vec<u8>, u64, u64)> {
     let sound = kdmv(20, 8, 30);
@@ -173,7 +202,7 @@ fn refused_images() -> Vec<(Vec<u8>, u64, u64)> {
             7,
             0,
         ),
-        (of(&|image| put64(image, 56, 30)), 8, 0),
+        (of(&|image| put64(image, 56, 30)), 8, 2),
         (of(&|image| set(image, 2, 23)), 9, 2),
         (of(&|image| put_entries(image, 2, &[6, 23, 40])), 9, 1),
         (packed(7, 100), 10, 1),

@@ -172,6 +172,7 @@ fn refused_images() {
     let images = faulty();
     for (number, image) in (1..).zip(&images) {
         let place = match number {
+            8 => 4,
             9 => 3,
             10 => 2,
             _ => 0,

@@ -22,7 +22,7 @@ pub fn stream() -> Vec<u8> {
     image
 }
 
-/// A refused image for each number from 1 to 12; 9 and 10 at grains 3 and 2.
+/// A refused image for each number from 1 to 12; 8 by a primary table, 9 and 10 at grains 3 and 2.
 pub fn faulty() -> Vec<Vec<u8>> {
     let mut images = vec![b"KDM".to_vec(), b"KDMW".to_vec()];
     for (at, value) in [(4, 4), (73, 0), (8, 9), (44, 1)] {
