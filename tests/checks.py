@@ -2,12 +2,12 @@
 """Writes the inputs that the program `vmdk_check` is run on, and the line that it must print for each: tests/checks/NAME and
 NAME.line. checks.py [FOLDER] writes them below another folder than tests.
 
-Each verdict is document 01's with request A2, written down by hand: a case at least for each refusal number that the program
-can give, both sides of each edge.
+Each verdict is document 01's with requests A2 and A8, written down by hand: a case at least for each refusal number that the
+program can give, both sides of each edge.
 """
 from asked import main
-from images import (ALL_ONES, FOOTER, PACKED, STREAM, STREAMED, ZEROED, at_one, cowd, entries, image, kdmv, marker, small,
-                    stream, stream_at_one, streamed, table_at_one, zeroed)
+from images import (ALL_ONES, FOOTER, PACKED, STREAM, STREAMED, ZEROED, at_one, cowd, entries, image, kdmv, marker, outside,
+                    small, stream, stream_at_one, streamed, table_at_one, zeroed)
 
 CASES = {}
 
@@ -69,29 +69,42 @@ refused("stream-again", stream(footer=STREAM), 7)
 refused("footer-before-places", stream(footer=FOOTER[:56] + bytes(8) + FOOTER[64:], last=b"\1"), 7)
 
 # ---- 8
-refused("descriptor-no-sector", small(0, 0, head=kdmv(descriptor=(0, 1))), 8)
-refused("descriptor-no-size", small(0, 0, head=kdmv(descriptor=(6, 0))), 8)
+refused("descriptor-no-sector", small(0, 0, head=kdmv(descriptor=(0, 1))), 8, 1)
+refused("descriptor-no-size", small(0, 0, head=kdmv(descriptor=(6, 0))), 8, 1)
 accepted("descriptor-at-end", small(0, 0, head=kdmv(descriptor=(6, 10))))
-refused("descriptor-past", small(0, 0, head=kdmv(descriptor=(6, 11))), 8)
-refused("descriptor-wraps", small(0, 0, head=kdmv(descriptor=(2**64 - 1, 2))), 8)
-refused("directory-0", small(0, 0, head=kdmv(directory=0)), 8)
-refused("directory-past", small(0, 0, head=kdmv(directory=16)), 8)
-refused("directory-wraps", small(0, 0, head=kdmv(directory=2**64 - 2)), 8)
+refused("descriptor-past", small(0, 0, head=kdmv(descriptor=(6, 11))), 8, 1)
+refused("descriptor-wraps", small(0, 0, head=kdmv(descriptor=(2**64 - 1, 2))), 8, 1)
+refused("directory-0", small(0, 0, head=kdmv(directory=0)), 8, 2)
+refused("directory-past", small(0, 0, head=kdmv(directory=16)), 8, 2)
+refused("directory-wraps", small(0, 0, head=kdmv(directory=2**64 - 2)), 8, 2)
 # n is 128, 129 and 127: 128 entries fill a sector
 accepted("directory-one-sector", image(2, (0, kdmv(128 * 512 * 8))), 128 * 512 * 8)
-refused("directory-two-sectors", image(2, (0, kdmv(128 * 512 * 8 + 1))), 8)
-refused("directory-entry-127", image(2, (0, kdmv(8323072, 128)), (1, entries(*[0] * 126, 99))), 8)
+refused("directory-two-sectors", image(2, (0, kdmv(128 * 512 * 8 + 1))), 8, 2)
+refused("directory-entry-127", image(2, (0, kdmv(8323072, 128)), (1, entries(*[0] * 126, 99))), 8, 4)
 accepted("directory-entry-128", image(2, (0, kdmv(8323072, 128)), (1, entries(*[0] * 127, 99))), 8323072, 128)
-refused("redundant-past", small(0, 0, head=kdmv(redundant=16)), 8)
+refused("redundant-past", small(0, 0, head=kdmv(redundant=16)), 8, 3)
 accepted("table-at-end", image(6, (0, kdmv()), (1, entries(2))))
-refused("table-past", image(6, (0, kdmv()), (1, entries(3))), 8)
-refused("redundant-table-past", image(16, (0, kdmv(redundant=6)), (1, entries(2)), (6, entries(13))), 8)
+refused("table-past", image(6, (0, kdmv()), (1, entries(3))), 8, 4)
+refused("redundant-table-past", image(16, (0, kdmv(redundant=6)), (1, entries(2)), (6, entries(13))), 8, 5)
 accepted("cowd-table-at-end", image(37, (0, cowd(4, 1)), (4, entries(5))), 4, 1)
-refused("cowd-table-past", image(36, (0, cowd(4, 1)), (4, entries(5))), 8)
+refused("cowd-table-past", image(36, (0, cowd(4, 1)), (4, entries(5))), 8, 4)
 accepted("cowd-unused-directory-entry", image(37, (0, cowd(4, 1, count=2)), (4, entries(5, 2**32 - 1))), 4, 1)
 accepted("directory-entry-1", image(2, (0, zeroed()), (1, entries(1))))
 
-refused("places-before-grains", small(9, 0, head=kdmv(descriptor=(6, 11))), 8)
+refused("places-before-grains", small(9, 0, head=kdmv(descriptor=(6, 11))), 8, 1)
+
+# the lowest part that applies (A8): all five, then mended one after the other
+refused("places-all-five", outside(1, 2, 3, 4, 5), 8, 1)
+refused("places-descriptor-mended", outside(2, 3, 4, 5), 8, 2)
+refused("places-directory-mended", outside(3, 4, 5), 8, 3)
+refused("places-redundant-directory-mended", outside(4, 5), 8, 4)
+refused("places-table-mended", outside(5), 8, 5)
+accepted("places-all-mended", outside())
+# one number of the descriptor zero is the descriptor's, sector 0 the directory's
+refused("places-no-sector-before-directory-0", outside(1, 2, descriptor=(0, 1), directory=0), 8, 1)
+refused("places-no-size-before-directory-0", outside(1, 2, descriptor=(1, 0), directory=0), 8, 1)
+accepted("places-no-descriptor", outside(1, descriptor=(0, 0)))
+refused("places-directory-0-before-redundant", outside(2, 3, directory=0), 8, 2)
 
 # ---- 9 and 10
 accepted("grain-at-end", small(8, 0))
@@ -150,7 +163,7 @@ accepted("entry-1-free", at_one(b"", 1, 0))
 refused("entry-1-on-directory-alone", at_one(b"", 1, 0, directory=8), 12)
 # in a directory: a table of sectors 1 to 4
 accepted("directory-entry-1-free", table_at_one(0, 0))
-refused("directory-entry-1-past", image(4, (0, kdmv(directory=3)), (3, entries(1))), 8)
+refused("directory-entry-1-past", image(4, (0, kdmv(directory=3)), (3, entries(1))), 8, 4)
 refused("directory-entry-1-on-directory", image(5, (0, kdmv(directory=4)), (4, entries(1))), 12)
 accepted("directory-entry-1-unused", image(2, (0, kdmv(4096)), (1, entries(0, 1))), 4096)
 # the directory is its own table; that begins with 1 too, and sectors 1 to 8 are a grain
@@ -158,11 +171,11 @@ refused("directory-entry-1-itself", image(9, (0, kdmv()), (1, entries(1))), 12)
 # by version and flag 0x4, in files without room for a grain or a table at sector 1
 for version in (2, 3):
     refused(f"entry-1-version-{version}", small(0, 1, head=kdmv(version=version), sectors=6), 9, 1)
-    refused(f"directory-entry-1-version-{version}", image(2, (0, kdmv(version=version)), (1, entries(1))), 8)
+    refused(f"directory-entry-1-version-{version}", image(2, (0, kdmv(version=version)), (1, entries(1))), 8, 4)
     accepted(f"entry-1-zeroed-{version}", small(0, 1, head=zeroed(version=version), sectors=6))
 accepted("directory-entry-1-zeroed-3", image(2, (0, zeroed(version=3)), (1, entries(1))))
 accepted("directory-entry-1-flag-4-alone", image(2, (0, zeroed(flags=4)), (1, entries(1))))
-refused("directory-entry-1-flags-0", image(2, (0, kdmv(version=2, flags=0)), (1, entries(1))), 8)
+refused("directory-entry-1-flags-0", image(2, (0, kdmv(version=2, flags=0)), (1, entries(1))), 8, 4)
 
 # ---- flag 0x4 in version 1: 5, after 3 and 4, before 6 and 7
 refused("flag-4-version-1", small(0, 1, head=zeroed(version=1), sectors=6), 5)

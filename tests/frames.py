@@ -2,7 +2,7 @@
 """Writes tests/cases/frames, which the program `cases` is run on, and what it must print. frames.py [FOLDER] writes it below
 another folder than tests.
 
-Each case has a label, an image, built byte by byte, and the areas that document 01, with request A2, gives it beside its
+Each case has a label, an image, built byte by byte, and the areas that document 01, with requests A2 and A8, gives it beside its
 grains, or the refusal, written down by hand: both sides of each edge. The list is lent as long as the areas need, or as `room`
 says, and all of it is printed. Nothing here reads an image.
 """
@@ -31,8 +31,8 @@ def framed(name, data, *areas, room=None):
     asked(name, data, len(words) if room is None else room, (0, 0, len(areas)), words)
 
 
-def refused(name, data, number, room=9):
-    asked(name, data, room, (number, 0, 0))
+def refused(name, data, number, place=0, room=9):
+    asked(name, data, room, (number, place, 0))
 
 
 def empty(head, sectors=6):
@@ -111,32 +111,32 @@ framed("past-last-sector", small(8, 0) + b"\xff" * 511, (HEADER, 0, 1), (DIRECTO
 framed("descriptor-at-end", empty(kdmv(descriptor=(3, 3))), (HEADER, 0, 1), (DESCRIPTOR, 3, 3), (DIRECTORY, 1, 1))
 for name, numbers in (("past", (3, 4)), ("past-cut", (6, 1)), ("without-sectors", (3, 0)), ("without-sector", (0, 3)),
                       ("wraps", (ALL_ONES, 2)), ("wraps-by-sectors", (3, ALL_ONES))):
-    refused(f"descriptor-{name}", image(6, (0, kdmv(descriptor=numbers)), extra=511), 8)
+    refused(f"descriptor-{name}", image(6, (0, kdmv(descriptor=numbers)), extra=511), 8, 1)
 framed("directory-at-end", empty(kdmv(directory=5)), (HEADER, 0, 1), (DIRECTORY, 5, 1))
 framed("directory-of-two-at-end", empty(kdmv(128 * 4096 + 1, directory=4)), (HEADER, 0, 1), (DIRECTORY, 4, 2))
-refused("directory-of-two-past", empty(kdmv(128 * 4096 + 1, directory=5)), 8)
+refused("directory-of-two-past", empty(kdmv(128 * 4096 + 1, directory=5)), 8, 2)
 for number in (0, 6, ALL_ONES - 1):
-    refused(f"directory-{number}", image(6, (0, kdmv(directory=number)), extra=511), 8)
+    refused(f"directory-{number}", image(6, (0, kdmv(directory=number)), extra=511), 8, 2)
 framed("cowd-count-at-end", empty(cowd(count=2 * 128)), (HEADER, 0, 4), (DIRECTORY, 4, 2))
 for count in (2 * 128 + 1, 2**32 - 1):
-    refused(f"cowd-count-{count}", empty(cowd(count=count)), 8)
-refused("cowd-directory-0", empty(cowd(directory=0)), 8)
+    refused(f"cowd-count-{count}", empty(cowd(count=count)), 8, 2)
+refused("cowd-directory-0", empty(cowd(directory=0)), 8, 2)
 framed("redundant-at-end", empty(kdmv(redundant=5)), (HEADER, 0, 1), (DIRECTORY, 1, 1), (REDUNDANT, 5, 1))
 for number in (6, ALL_ONES - 1, ALL_ONES):
-    refused(f"redundant-{number}", image(6, (0, kdmv(redundant=number)), extra=511), 8)
-refused("redundant-of-two-past", empty(kdmv(128 * 4096 + 1, redundant=5)), 8)
-for name, at, group in (("table", 1, TABLE), ("copy", 2, COPY)):
+    refused(f"redundant-{number}", image(6, (0, kdmv(redundant=number)), extra=511), 8, 3)
+refused("redundant-of-two-past", empty(kdmv(128 * 4096 + 1, redundant=5)), 8, 3)
+for name, at, group, place in (("table", 1, TABLE, 4), ("copy", 2, COPY, 5)):
     framed(f"{name}-at-end", image(7, (0, kdmv(redundant=2)), (at, entries(3))),
            (HEADER, 0, 1), (DIRECTORY, 1, 1), (REDUNDANT, 2, 1), (group, 3, 4))
     for number in (4, 7, 2**32 - 1):
-        refused(f"{name}-{number}", image(7, (0, kdmv(redundant=2)), (at, entries(number)), extra=511), 8)
+        refused(f"{name}-{number}", image(7, (0, kdmv(redundant=2)), (at, entries(number)), extra=511), 8, place)
     framed(f"{name}-at-1", image(5, (0, kdmv(redundant=2)), (at, entries(1))),
            (HEADER, 0, 1), (DIRECTORY, 1, 1), (REDUNDANT, 2, 1), (group, 1, 4))
-    refused(f"{name}-at-1-past", image(4, (0, kdmv(redundant=2)), (at, entries(1)), extra=511), 8)
+    refused(f"{name}-at-1-past", image(4, (0, kdmv(redundant=2)), (at, entries(1)), extra=511), 8, place)
 framed("cowd-table-at-end", image(38, (0, cowd()), (4, entries(6))), (HEADER, 0, 4), (DIRECTORY, 4, 1), (TABLE, 6, 32))
-refused("cowd-table-past", image(38, (0, cowd()), (4, entries(7))), 8)
-refused("last-table-past", image(9, (0, kdmv(4097)), (1, entries(2, 6))), 8)
-refused("stream-directory-0", stream(footer=FOOTER[:56] + bytes(8) + FOOTER[64:]), 8)
+refused("cowd-table-past", image(38, (0, cowd()), (4, entries(7))), 8, 4)
+refused("last-table-past", image(9, (0, kdmv(4097)), (1, entries(2, 6))), 8, 4)
+refused("stream-directory-0", stream(footer=FOOTER[:56] + bytes(8) + FOOTER[64:]), 8, 2)
 
 # ---- 1 to 7, one or two of each: the lookup's cases have their edges
 refused("no-bytes", b"", 1)
@@ -165,13 +165,13 @@ refused("7-before-8", stream(footer=FOOTER[:56] + bytes(8) + FOOTER[64:], extra=
 # ---- 21: three words an area, after 1 to 8; what is not written keeps its content
 framed("room-to-spare", small(8, 0), (HEADER, 0, 1), (DIRECTORY, 1, 1), (TABLE, 2, 4), room=14)
 for room in (0, 1, 6, 8):
-    refused(f"room-{room}", small(8, 0), 21, room)
+    refused(f"room-{room}", small(8, 0), 21, room=room)
 framed("room-96", image(6, (0, kdmv(30 * 4096)), (1, entries(*[2] * 31))),
        (HEADER, 0, 1), (DIRECTORY, 1, 1), *[(TABLE, 2, 4)] * 30, room=96)
-refused("room-95", image(6, (0, kdmv(30 * 4096)), (1, entries(*[2] * 31))), 21, 95)
-refused("room-96-of-99", image(6, (0, kdmv(31 * 4096)), (1, entries(*[2] * 31))), 21, 96)
-refused("8-before-21", small(8, 0, head=kdmv(directory=0)), 8, 0)
-refused("1-before-21", b"", 1, 0)
+refused("room-95", image(6, (0, kdmv(30 * 4096)), (1, entries(*[2] * 31))), 21, room=95)
+refused("room-96-of-99", image(6, (0, kdmv(31 * 4096)), (1, entries(*[2] * 31))), 21, room=96)
+refused("8-before-21", small(8, 0, head=kdmv(directory=0)), 8, 2, room=0)
+refused("1-before-21", b"", 1, room=0)
 
 
 def write(folder):

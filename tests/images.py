@@ -79,3 +79,13 @@ def stream_at_one(**fields):
     both = {**STREAMED, **fields}
     return image(9, (0, kdmv(directory=ALL_ONES, **both)), (1, marker(0, 5)), (2, entries(3)), (3, entries(1, 0)),
                  (7, kdmv(directory=2, **both)))
+
+
+def outside(*places, descriptor=(12, 1), directory=12):
+    """Twelve sectors: header, descriptor, the two directories, and a table of either, whose first grain is zero and whose
+    second is absent. The parts with these places end a sector past the file; descriptor and directory have the numbers that are
+    given."""
+    head = zeroed(descriptor=descriptor if 1 in places else (1, 1), directory=directory if 2 in places else 2,
+                  redundant=12 if 3 in places else 3)
+    table, copy = (9 if 4 in places else 4), (9 if 5 in places else 8)
+    return image(12, (0, head), (2, entries(table)), (3, entries(copy)), (4, entries(1, 0)), (8, entries(1, 0)))

@@ -132,7 +132,7 @@ DIFFER = image(20, (0, zeroed(redundant=6)), (1, entries(2)), (2, entries(12, 12
 for number, data, place in (
         (1, b"KDM", 0), (2, b"VMDK", 0), (3, small(8, 0, head=kdmv(version=4)), 0),
         (4, small(8, 0, head=kdmv(newline=b"\n \n\n")), 0), (5, small(8, 0, head=kdmv(flags=9)), 0),
-        (6, small(8, 0, head=kdmv(0)), 0), (7, stream(extra=1), 0), (8, small(8, 0, head=kdmv(directory=0)), 0),
+        (6, small(8, 0, head=kdmv(0)), 0), (7, stream(extra=1), 0), (8, small(8, 0, head=kdmv(directory=0)), 2),
         (9, small(8, 16), 1), (10, image(7, (0, PACKED), (1, entries(2)), (2, entries(0, 6)), (6, marker(0, 5))), 1),
         (11, DIFFER, 0)):
     refused(f"number-{number}", data, number, place, room=2)

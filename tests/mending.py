@@ -26,8 +26,8 @@ class Mends:
         words = [word for change in changes for word in change]
         self.asked(name, data, good, len(words) if room is None else room, (0, 0, len(changes)), after, words)
 
-    def refused(self, name, data, number, good, room=MOST):
-        self.asked(name, data, good, room, (number, 0, 0), data)
+    def refused(self, name, data, number, good, room=MOST, place=0):
+        self.asked(name, data, good, room, (number, place, 0), data)
 
     def refused_40(self, name, data):
         """From either side."""

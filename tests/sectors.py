@@ -2,9 +2,9 @@
 """Writes tests/cases/sectors, which the program `cases` is run on, and what it must print. sectors.py [FOLDER] writes it below
 another folder than tests.
 
-Each case has a label, an image or a chain, built byte by byte, and sectors with the answer that document 01, with request A2,
-gives for each, written down by hand: both sides of each edge. Nothing here reads an image but for the bytes that an answer
-names.
+Each case has a label, an image or a chain, built byte by byte, and sectors with the answer that document 01, with requests A2
+and A8, gives for each, written down by hand: both sides of each edge. Nothing here reads an image but for the bytes that an
+answer names.
 """
 import struct
 
@@ -125,23 +125,23 @@ lookups("cowd-count-n", image(64, (0, cowd(4097, 1, count=2))), (0, absent()), (
 lookups("cowd-grain-size-4096", image(64, (0, cowd(size=4096))), (0, refused(6)))
 lookups("cowd-grain-size-2", image(64, (0, cowd(size=2))), (0, absent()))
 # 8: directory sector 0; the directory or the table one sector past F; sums that would wrap
-lookups("directory-0", small(8, 0, head=kdmv(directory=0)), (0, refused(8)))
+lookups("directory-0", small(8, 0, head=kdmv(directory=0)), (0, refused(8, 2)))
 lookups("directory-at-end", small(8, 0, head=kdmv(directory=15)), (0, absent()))
-lookups("directory-past", small(8, 0, head=kdmv(directory=16)), (0, refused(8)))
-lookups("directory-wraps", small(8, 0, head=kdmv(directory=2**64 - 2, flags=1)), (0, refused(8)))
+lookups("directory-past", small(8, 0, head=kdmv(directory=16)), (0, refused(8, 2)))
+lookups("directory-wraps", small(8, 0, head=kdmv(directory=2**64 - 2, flags=1)), (0, refused(8, 2)))
 lookups("table-at-end", image(6, (0, kdmv()), (1, entries(2))), (0, absent()))
-lookups("table-past-cut", image(5, (0, kdmv()), (1, entries(2)), extra=511), (0, refused(8)))
-lookups("table-far", image(16, (0, kdmv()), (1, entries(2**32 - 1))), (0, refused(8)))
+lookups("table-past-cut", image(5, (0, kdmv()), (1, entries(2)), extra=511), (0, refused(8, 4)))
+lookups("table-far", image(16, (0, kdmv()), (1, entries(2**32 - 1))), (0, refused(8, 4)))
 lookups("cowd-directory-by-count", image(16, (0, cowd(count=1024))), (0, absent()))
-lookups("cowd-directory-past", image(16, (0, cowd(count=1537))), (0, refused(8)))
-lookups("other-table-past", image(6, (0, kdmv(4104)), (1, entries(2, 3))), (0, absent()), (4096, refused(8)))
+lookups("cowd-directory-past", image(16, (0, cowd(count=1537))), (0, refused(8, 2)))
+lookups("other-table-past", image(6, (0, kdmv(4104)), (1, entries(2, 3))), (0, absent()), (4096, refused(8, 4)))
 # what the lookup does not judge: the descriptor, the redundant directory (above), grains that share a sector, bytes past F
 lookups("descriptor-past", small(8, 0, head=kdmv(descriptor=(6, 11))), (0, stored(8)))
 lookups("two-grains-on-one", small(8, 8), (0, stored(8)), (8, stored(8)))
 lookups("past-last-sector", small(8, 0) + b"\xff" * 511, (0, stored(8)), (7, stored(15)), (8, absent()))
 # the order: 1 to 7, 20, 8, 9, 10
 lookups("header-before-20", small(0, 0, head=kdmv(version=0)), (16, refused(3)))
-lookups("20-before-8", small(0, 0, head=kdmv(directory=0)), (15, refused(8)), (16, refused(20)))
+lookups("20-before-8", small(0, 0, head=kdmv(directory=0)), (15, refused(8, 2)), (16, refused(20)))
 # 9: a grain one sector past F, also where capacity ends inside it
 lookups("grain-at-end", small(8, 0), (0, stored(8)), (7, stored(15)))
 lookups("other-grain-past", small(9, 8), (0, refused(9, 0)), (8, stored(8)))
@@ -172,7 +172,7 @@ lookups("stream-last-sector", stream(last=b"\1"), (0, refused(7)))
 lookups("stream-again", stream(footer=STREAM), (0, refused(7)))
 for at in (511, 55, 64):
     lookups(f"stream-footer-byte-{at}", stream(footer=FOOTER[:at] + b"\1" + FOOTER[at + 1:]), (0, refused(7)))
-lookups("stream-directory-0", stream(footer=FOOTER[:56] + bytes(8) + FOOTER[64:]), (0, refused(8)))
+lookups("stream-directory-0", stream(footer=FOOTER[:56] + bytes(8) + FOOTER[64:]), (0, refused(8, 2)))
 lookups("stream-3-sectors", image(3, (0, STREAM), (1, FOOTER)), (0, refused(7)))
 lookups("stream-4-sectors", image(4, (0, STREAM), (2, FOOTER)), (0, absent()))
 
@@ -186,10 +186,10 @@ for version in (2, 3):
 lookups("entry-1-zeroed-3", small(1, 0, head=zeroed(version=3), sectors=6), (0, zero()), (8, absent()))
 # a directory's entry of 1 is a table's sector
 lookups("table-at-1", table_at_one(6, 0, sectors=14), (0, stored(6)), (7, stored(13)), (8, absent()))
-lookups("table-at-1-past", image(4, (0, kdmv(directory=3)), (3, entries(1))), (0, refused(8)), (15, refused(8)))
+lookups("table-at-1-past", image(4, (0, kdmv(directory=3)), (3, entries(1))), (0, refused(8, 4)), (15, refused(8, 4)))
 lookups("table-at-1-at-end", image(5, (0, kdmv(directory=3)), (3, entries(1))), (0, absent()), (15, absent()))
 for version in (2, 3):
-    lookups(f"directory-entry-1-version-{version}", image(2, (0, kdmv(version=version)), (1, entries(1))), (0, refused(8)))
+    lookups(f"directory-entry-1-version-{version}", image(2, (0, kdmv(version=version)), (1, entries(1))), (0, refused(8, 4)))
 lookups("directory-entry-1-zeroed-3", image(2, (0, zeroed(version=3)), (1, entries(1))), (0, zero()), (15, zero()))
 lookups("directory-entry-1-flag-4-alone", image(2, (0, zeroed(flags=4)), (1, entries(1))), (0, zero()), (15, zero()))
 # packed: the marker stands at sector 1
@@ -227,7 +227,7 @@ chain("grain-sizes-differ", [BASE, small(8, 0, head=kdmv(size=16))], (16, refuse
 chain("top-grain-past", [BASE, small(9, 9)], (0, refused(9, 0, layer=1)), (8, refused(9, 1, layer=1)))
 chain("base-grain-past", [small(9, 9), TOP], (0, refused(9, 0, layer=0)))
 chain("base-grain-not-asked", [small(9, 9), BASE], (0, stored(8, 1)))
-chain("top-directory-0", [BASE, small(8, 8, head=kdmv(directory=0))], (0, refused(8, layer=1)))
+chain("top-directory-0", [BASE, small(8, 8, head=kdmv(directory=0))], (0, refused(8, 2, layer=1)))
 chain("cowd-under-kdmv", [image(38, (0, cowd(16, 8)), (4, entries(5)), (5, entries(0, 30))), TOP],
       (8, stored(30, 0)), (0, absent(0)))
 chain("packed-over-stored",

@@ -108,7 +108,7 @@ disk("own-magic-alone", ('RW 4 SPARSE "a"', b"KDMV"), ('RW 4 VMFSSPARSE "b"', b"
 for name, data, number, place in (
         ("version", small(8, 0, head=kdmv(version=4)), 3, 0), ("newline", small(8, 0, head=kdmv(newline=b"\n \n\n")), 4, 0),
         ("flags", small(8, 0, head=kdmv(flags=9)), 5, 0), ("sizes", small(8, 0, head=kdmv(0)), 6, 0),
-        ("footer", stream(extra=1), 7, 0), ("directory", small(8, 0, head=kdmv(directory=0)), 8, 0),
+        ("footer", stream(extra=1), 7, 0), ("directory", small(8, 0, head=kdmv(directory=0)), 8, 2),
         ("grain-past", small(8, 16), 9, 1),
         ("marker", image(7, (0, PACKED), (1, entries(2)), (2, entries(0, 6)), (6, marker(0, 5))), 10, 1),
         ("copies", image(12, (0, zeroed(redundant=6)), (1, entries(2)), (2, entries(1)), (6, entries(7))), 11, 0),

@@ -92,8 +92,8 @@ def both_at_one(version, flags):
 
 surveyed("entry-1-by-version", (second_at_one(2, 1), bad(9, 1)), (second_at_one(3, 1), bad(9, 1)),
          (second_at_one(3, 5), full(0, 1, 1, 0)), totals=[0, 1, 1, 0], tally={9: 2})
-surveyed("directory-entry-1-by-version", (both_at_one(1, 1), bad(8)), (both_at_one(2, 1), bad(8)), (both_at_one(3, 0), bad(8)),
-         (both_at_one(0, 5), bad(3)), (both_at_one(1, 5), bad(5)), (both_at_one(1, 4), bad(5)),
+surveyed("directory-entry-1-by-version", (both_at_one(1, 1), bad(8, 4)), (both_at_one(2, 1), bad(8, 4)),
+         (both_at_one(3, 0), bad(8, 4)), (both_at_one(0, 5), bad(3)), (both_at_one(1, 5), bad(5)), (both_at_one(1, 4), bad(5)),
          (both_at_one(2, 4), full(0, 2, 0, 0)), (both_at_one(3, 5), full(0, 2, 0, 0)), (both_at_one(4, 5), bad(3)),
          totals=[0, 4, 0, 0], tally={3: 2, 5: 2, 8: 3})
 
@@ -124,7 +124,7 @@ surveyed("capacity-most", (image(17, (0, zeroed(2**31, 2048)), (1, entries(1))),
 surveyed("each-number",
          (b"KDM", bad(1)), (b"VMDK", bad(2)), (small(8, 0, head=kdmv(version=4)), bad(3)),
          (small(8, 0, head=kdmv(newline=b"\n \n\n")), bad(4)), (small(8, 0, head=kdmv(flags=9)), bad(5)),
-         (small(8, 0, head=kdmv(0)), bad(6)), (stream(extra=1), bad(7)), (small(8, 0, head=kdmv(directory=0)), bad(8)),
+         (small(8, 0, head=kdmv(0)), bad(6)), (stream(extra=1), bad(7)), (small(8, 0, head=kdmv(directory=0)), bad(8, 2)),
          (PAST, bad(9, 1)),
          (image(7, (0, PACKED), (1, entries(2)), (2, entries(0, 6)), (6, marker(0, 5))), bad(10, 1)),
          (image(12, (0, zeroed(redundant=6)), (1, entries(2)), (2, entries(1)), (6, entries(7))), bad(11)), (OVERLAP, bad(12)),

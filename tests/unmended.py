@@ -14,33 +14,34 @@ LABELS = MENDS.labels
 mended, refused, refused_40 = MENDS.mended, MENDS.refused, MENDS.refused_40
 
 # ---- the header's numbers come first, whatever the room; COWD has its own, and is then refused 40
-for number, data in (
-        (1, b"KDM"), (2, b"VMDK"), (3, sides((1, 0), (0, 0), version=4)), (4, sides((1, 0), (0, 0), newline=b"\n \n\n")),
-        (5, sides((1, 0), (0, 0), flags=13)), (6, sides((1, 0), (0, 0), entries=511)),
-        (7, footed((1, 0), (0, 0))[:-SECTOR]), (8, sides((1, 0), (0, 0), descriptor=(1, 0)))):
-    refused(f"number-{number}", data, number, PRIMARY)
-    refused(f"number-{number}-no-list", data, number, REDUNDANT, 0)
+for number, place, data in (
+        (1, 0, b"KDM"), (2, 0, b"VMDK"), (3, 0, sides((1, 0), (0, 0), version=4)),
+        (4, 0, sides((1, 0), (0, 0), newline=b"\n \n\n")), (5, 0, sides((1, 0), (0, 0), flags=13)),
+        (6, 0, sides((1, 0), (0, 0), entries=511)), (7, 0, footed((1, 0), (0, 0))[:-SECTOR]),
+        (8, 1, sides((1, 0), (0, 0), descriptor=(1, 0)))):
+    refused(f"number-{number}", data, number, PRIMARY, place=place)
+    refused(f"number-{number}-no-list", data, number, REDUNDANT, 0, place)
 refused("no-bytes", b"", 1, PRIMARY)
 for name, data, number in (
-        ("cowd-2047", cowd()[:2047], 1), ("cowd-version-2", cowd(version=2), 3), ("cowd-count-0", cowd(count=0), 6),
-        ("cowd-directory-0", image(5, (0, cowd(directory=0))), 8)):
+        ("cowd-2047", cowd()[:2047], 1), ("cowd-version-2", cowd(version=2), 3), ("cowd-count-0", cowd(count=0), 6)):
     refused(name, data, number, PRIMARY)
+refused("cowd-directory-0", image(5, (0, cowd(directory=0))), 8, PRIMARY, place=2)
 refused_40("cowd", image(5, (0, cowd())))
 # 8, of each part, and what ends with the file
-for name, fields in (
-        ("descriptor", {"descriptor": (11, 1)}), ("directory-0", {"directory": 0}), ("directory", {"directory": 11}),
-        ("redundant-directory", {"head": zeroed(redundant=11)})):
-    refused(f"8-{name}", sides((1, 0), (0, 0), **fields), 8, PRIMARY)
+for name, place, fields in (
+        ("descriptor", 1, {"descriptor": (11, 1)}), ("directory-0", 2, {"directory": 0}), ("directory", 2, {"directory": 11}),
+        ("redundant-directory", 3, {"head": zeroed(redundant=11)})):
+    refused(f"8-{name}", sides((1, 0), (0, 0), **fields), 8, PRIMARY, place=place)
 TURNED = (0, zeroed(redundant=6)), (1, entries(7)), (6, entries(2))
-refused("8-table", image(11, *TURNED, (1, entries(8))), 8, PRIMARY)
-refused("8-redundant-table", image(11, *TURNED, (6, entries(8))), 8, PRIMARY)
+refused("8-table", image(11, *TURNED, (1, entries(8))), 8, PRIMARY, place=4)
+refused("8-redundant-table", image(11, *TURNED, (6, entries(8))), 8, PRIMARY, place=5)
 mended("table-ends-the-file", image(11, *TURNED, (7, entries(1))), PRIMARY,
        image(11, *TURNED, (7, entries(1)), (2, entries(1))), (0, 0, 1))
 ENDS = image(3, (0, kdmv(directory=2, redundant=1)))
 mended("directory-ends-the-file", ENDS, PRIMARY, ENDS)
 # 8 comes before 40: no redundant directory, or one that has other places
-refused("8-one-directory", image(6, (0, kdmv(directory=6))), 8, PRIMARY)
-refused("8-other-places", image(11, (0, zeroed(redundant=6)), (1, entries(8))), 8, PRIMARY)
+refused("8-one-directory", image(6, (0, kdmv(directory=6))), 8, PRIMARY, place=2)
+refused("8-other-places", image(11, (0, zeroed(redundant=6)), (1, entries(8))), 8, PRIMARY, place=4)
 
 # ---- 40: no redundant directory
 refused_40("one-directory", small(8, 0))
@@ -109,7 +110,7 @@ refused_40("descriptor-on-table", sides((1, 0), (0, 0), 12, descriptor=(5, 1)))
 refused_40("descriptor-on-last-sector", footed((1, 0), (0, 0), descriptor=(12, 1)))
 refused_40("redundant-directory-on-last-sector", footed((), (), (0, 0), copy=12))
 # the footer's first four bytes are the sector of a table past F
-refused("redundant-directory-on-footer", footed((), (), (0, 0), copy=11), 8, PRIMARY)
+refused("redundant-directory-on-footer", footed((), (), (0, 0), copy=11), 8, PRIMARY, place=5)
 mended("redundant-directory-before-footer", footed((), (), (0, 0), copy=10), PRIMARY, footed((), (), (0, 0), copy=10))
 # alike, and yet refused; a fault on each side
 refused_40("alike-9", sides((12, 0), (12, 0), 19))
