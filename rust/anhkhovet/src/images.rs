@@ -34,7 +34,7 @@ impl Header {
 
 /// The full check of one image: every layout rule, over every sector.
 ///
-/// Refusals: 1 to 12, the first that applies.
+/// Refusals: 1 to 12, the first that applies; 8 names the [part](crate::MisplacedPart) that sticks out, 9 and 10 the grain.
 ///
 /// It needs [`STACK`](crate::STACK) bytes of stack; [`check_in`](crate::check_in) does with little.
 ///

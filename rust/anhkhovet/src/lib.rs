@@ -51,7 +51,7 @@ pub use disks::{split, Placed, SplitRefusal};
 pub use images::{check, header, Disk, Header};
 pub use marks::{check_in, words_needed, Marked, MarkedRefusal};
 pub use mending::{changes, mend, Change, Side, CHANGE};
-pub use refusal::{ChainRefusal, Counted, Refusal};
+pub use refusal::{ChainRefusal, Counted, MisplacedPart, Refusal};
 pub use sectors::{chain, lookup, read, read_part, Located, Source};
 pub use surveys::{survey, Counts, Survey, Tallied};
 pub use texts::{descriptor, find, Access, Descriptor, Extent, ExtentKind};

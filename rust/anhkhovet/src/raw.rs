@@ -1,4 +1,5 @@
-//! The calls with their answers as document 01's numbers: number 0 is an answer, and what does not apply is 0.
+//! The calls with their answers as document 01's numbers: number 0 is an answer, and what does not apply is 0. The place of 8 is 1
+//! to 5, as [`MisplacedPart`](crate::MisplacedPart) has the parts.
 //!
 //! Each `unsafe` below rests on the same ground: a slice's pointer and count describe memory that is lent for the call,
 //! shared or exclusive as the slice is, and the library keeps neither. Lent bytes stand still for the call, as Rust asks of every

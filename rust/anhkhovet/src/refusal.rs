@@ -9,13 +9,34 @@ pub struct Refusal {
     /// Document 01's number: 1 to 12 of an image, 20 to 24, 27 and 40 of what is asked, 30 to 36 of a text, 38, 39 and 45 of an
     /// extent.
     pub number: u64,
-    /// The grain or the line at fault, as [`Refusal::counted`] says, else 0.
+    /// The part, the grain or the line at fault, as [`Refusal::counted`] says, else 0.
     pub place: u64,
+}
+
+/// What refusal 8 finds outside the file, in the order of its places from 1 on. Where several parts lie outside, the place is the
+/// lowest. A lookup judges, and so names, [`Directory`](MisplacedPart::Directory) and
+/// [`PrimaryTable`](MisplacedPart::PrimaryTable) alone.
+///
+#[doc = concat!("```\n", include_str!("../examples/misplaced.rs"), "```")]
+#[derive(Clone, Copy, Debug, PartialEq, Eq, Hash)]
+pub enum MisplacedPart {
+    /// The text inside the image; also where only one of its two numbers is zero.
+    Descriptor,
+    /// The directory that lookups go by; also where its sector is 0.
+    Directory,
+    /// Its copy.
+    RedundantDirectory,
+    /// A table that the directory names.
+    PrimaryTable,
+    /// A table that the copy names.
+    RedundantTable,
 }
 
 /// What a refusal's place counts.
 #[derive(Clone, Copy, Debug, PartialEq, Eq)]
 pub enum Counted {
+    /// It counts nothing, and names the part that does not lie inside the file.
+    Part(MisplacedPart),
     /// Grains of the image, from 0.
     Grain,
     /// Lines of the text, from 1.
@@ -33,6 +54,37 @@ pub struct ChainRefusal {
     pub layer: u64,
 }
 
+impl MisplacedPart {
+    /// The part of a place of refusal 8; none where that is no place of it.
+    fn of(place: u64) -> Option<MisplacedPart> {
+        match place {
+            1 => Some(MisplacedPart::Descriptor),
+            2 => Some(MisplacedPart::Directory),
+            3 => Some(MisplacedPart::RedundantDirectory),
+            4 => Some(MisplacedPart::PrimaryTable),
+            5 => Some(MisplacedPart::RedundantTable),
+            _ => None,
+        }
+    }
+
+    /// What is wrong with it, in words.
+    pub fn words(self) -> &'static str {
+        match self {
+            MisplacedPart::Descriptor => {
+                "the descriptor does not lie inside the file, or only one of its two numbers is zero"
+            }
+            MisplacedPart::Directory => {
+                "the directory does not lie inside the file, or its sector is 0"
+            }
+            MisplacedPart::RedundantDirectory => {
+                "the redundant directory does not lie inside the file"
+            }
+            MisplacedPart::PrimaryTable => "a primary table does not lie inside the file",
+            MisplacedPart::RedundantTable => "a redundant table does not lie inside the file",
+        }
+    }
+}
+
 impl Refusal {
     /// No refusal where the number is 0.
     pub(crate) fn unless_zero(number: u64, place: u64) -> Result<(), Refusal> {
@@ -43,8 +95,19 @@ impl Refusal {
         }
     }
 
+    /// What does not lie inside the file, by the place of refusal 8.
+    pub fn part(&self) -> Option<MisplacedPart> {
+        match self.number {
+            8 => MisplacedPart::of(self.place),
+            _ => None,
+        }
+    }
+
     /// What the place counts.
     pub fn counted(&self) -> Counted {
+        if let Some(part) = self.part() {
+            return Counted::Part(part);
+        }
         match self.number {
             9 | 10 => Counted::Grain,
             32..=34 if self.place > 0 => Counted::Line,
@@ -52,8 +115,12 @@ impl Refusal {
         }
     }
 
-    /// What the number means, in words.
+    /// What the number means, in words; of 8 with what sticks out. Without its place, as a tally of numbers has it, 8 names all
+    /// that may.
     pub fn sentence(&self) -> &'static str {
+        if let Some(part) = self.part() {
+            return part.words();
+        }
         match self.number {
             1 => "the file is too short to hold a header",
             2 => "the file begins with neither KDMV nor COWD, so it is no sparse image",
@@ -113,7 +180,8 @@ impl fmt::Display for Refusal {
         match self.counted() {
             Counted::Grain => write!(to, " at grain {}", self.place)?,
             Counted::Line => write!(to, " at line {}", self.place)?,
-            Counted::Nothing => {}
+            // The sentence has the part.
+            Counted::Part(_) | Counted::Nothing => {}
         }
         write!(to, ": {}", self.sentence())
     }

@@ -4,7 +4,8 @@ mod common;
 
 use anhkhovet::{
     chain, check, collapse, descriptor, find, header, lookup, normal, raw, read, read_part, Access,
-    ChainRefusal, Counted, Disk, Extent, ExtentKind, Header, Located, Refusal, Source,
+    ChainRefusal, Counted, Disk, Extent, ExtentKind, Header, Located, MisplacedPart, Refusal,
+    Source,
 };
 use common::image;
 
@@ -114,7 +115,7 @@ fn written_images() {
     assert_eq!(collapse(&image, &other, &mut out), Err(refused(22, 0)));
     assert_eq!(
         collapse(&image, &image[..512], &mut out),
-        Err(refused(8, 0))
+        Err(refused(8, 1))
     );
 }
 
@@ -199,6 +200,7 @@ fn words_of_refusals() {
         .map(|number| refused(number, 1).sentence())
         .collect();
     sentences.push(refused(33, 0).sentence());
+    sentences.extend((2..=6).map(|place| refused(8, place).sentence()));
     let all = sentences.len();
     sentences.sort_unstable();
     sentences.dedup();

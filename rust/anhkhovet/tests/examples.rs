@@ -35,6 +35,7 @@ examples! {
     header "header.rs"
     lookup "lookup.rs"
     mend "mend.rs"
+    misplaced "misplaced.rs"
     normal "normal.rs"
     read "read.rs"
     split "split.rs"

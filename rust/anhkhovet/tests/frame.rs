@@ -83,10 +83,10 @@ fn lists_of_the_caller() {
 
 #[test]
 fn refusals() {
-    let refused = |number| Err(Refusal { number, place: 0 });
-    assert_eq!(frame(&[]), refused(1));
-    assert_eq!(frame(&many(0)), refused(6));
-    assert_eq!(frame(&many(3)[..512 * 15]), refused(8));
+    let refused = |number, place| Err(Refusal { number, place });
+    assert_eq!(frame(&[]), refused(1, 0));
+    assert_eq!(frame(&many(0)), refused(6, 0));
+    assert_eq!(frame(&many(3)[..512 * 15]), refused(8, 4));
     // A grain past the end is the check's to refuse.
     let mut grain = many(3);
     grain[512 * 12] = 200;

@@ -58,13 +58,16 @@ fn mended(image: &[u8], good: Side, count: usize) -> (Vec<u8>, Vec<[u64; 3]>) {
     (after, told.collect())
 }
 
-/// That it is refused so, and that no byte and no word is written.
+/// That it is refused so, with no place, and that no byte and no word is written.
 fn assert_refused(image: &[u8], good: Side, room: usize, number: u64) {
+    assert_refused_at(image, good, room, Refusal { number, place: 0 });
+}
+
+fn assert_refused_at(image: &[u8], good: Side, room: usize, refused: Refusal) {
     let mut after = image.to_vec();
     let mut list = vec![HELD; room];
-    let refused = Refusal { number, place: 0 };
     assert_eq!(mend(&mut after, good, &mut list), Err(refused), "{room}");
-    assert!(after == image && list == vec![HELD; room], "{number}");
+    assert!(after == image && list == vec![HELD; room], "{refused}");
 }
 
 #[test]
@@ -167,12 +170,30 @@ fn refused_for_the_header() {
     put(&mut stream, 56, &[0xff; 8]);
     stream[77] = 1;
     images.push((7, stream));
-    images.push((8, with(PRIMARY.0, &[141])));
-    images.push((8, with(REDUNDANT.0, &[141])));
     for (number, image) in images {
         for good in BOTH {
             assert_refused(&image, good, 0, number);
             assert_refused(&image, good, 15, number);
+        }
+    }
+}
+
+#[test]
+fn refused_for_a_part_outside() {
+    let both = {
+        let mut image = with(PRIMARY.0, &[141]);
+        put_entries(&mut image, REDUNDANT.0, &[141]);
+        image
+    };
+    for (image, place) in [
+        (with(PRIMARY.0, &[141]), 4),
+        (with(REDUNDANT.0, &[141]), 5),
+        (both, 4),
+    ] {
+        for good in BOTH {
+            for room in [0, 15] {
+                assert_refused_at(&image, good, room, Refusal { number: 8, place });
+            }
         }
     }
 }
