@@ -8,6 +8,14 @@ const JUDGES: &[Call] = &[Check, CheckIn, Header, Frame, Survey];
 /// The same, and mending, which no COWD image is answered.
 const OF_KDMV: &[Call] = &[Check, CheckIn, Header, Frame, Survey, Mend];
 
+/// Calls that judge all parts of an image.
+const OF_PARTS: &[Call] = &[Check, CheckIn, Frame, Survey, Mend, Normal, Collapse, Split];
+
+/// The same, and those that judge the directory and the sector's own table alone.
+const OF_TABLES: &[Call] = &[
+    Check, CheckIn, Frame, Survey, Mend, Normal, Collapse, Split, Lookup, Chain,
+];
+
 /// Kinds of answers, with the calls that can give them.
 pub const ANSWERS: &[(&str, &[Call])] = &[
     ("accepted KDMV", OF_KDMV),
@@ -139,6 +147,26 @@ pub const ANSWERS: &[(&str, &[Call])] = &[
     ("40, one way only", &[Mend]),
     ("40, 21 too", &[Mend]),
     ("8, 40 too", &[Mend]),
+    // Request A8: by the part that 8 names, by whether others lie outside too, and what a lookup serves all the same.
+    ("8, descriptor", OF_PARTS),
+    ("8, directory", OF_TABLES),
+    ("8, redundant", OF_PARTS),
+    ("8, primary table", OF_TABLES),
+    ("8, redundant table", OF_PARTS),
+    ("8, 1 and others", OF_PARTS),
+    ("8, 2 and others", OF_PARTS),
+    ("8, 3 and 4", OF_PARTS),
+    ("8, 4 and 5", OF_PARTS),
+    ("8, half a descriptor", OF_PARTS),
+    ("8, directory at 0", OF_TABLES),
+    ("8, lower alone", &[Collapse]),
+    ("8, upper alone", &[Collapse]),
+    ("8, below the top", &[Chain]),
+    ("20, 8 too", &[Lookup]),
+    ("found, 8 with place 1", &[Lookup, Chain, Read]),
+    ("found, 8 with place 3", &[Lookup, Chain, Read]),
+    ("found, 8 with place 4", &[Lookup, Chain, Read]),
+    ("found, 8 with place 5", &[Lookup, Chain, Read]),
 ];
 
 /// The refusals of documents 01 and 02, with the calls that can give them, a survey in its rows too; 37 is the program's own.

@@ -89,8 +89,12 @@ impl Cut {
             most_sectors: 40,
             ..Plan::default()
         };
-        // Half of the numbers that an image is refused for are its header's, which damage 0 is done to.
-        let which = if rng.one_in(3) { 0 } else { which };
+        // Half of the numbers that an image is refused for are its header's, which damage 0 is done to; 8 has five places.
+        let which = match rng.below(6) {
+            0 | 1 => 0,
+            2 => 5,
+            _ => which,
+        };
         let mut built = made(rng, plan, which, u64::from((1..10).contains(&fault)));
         let mut sectors = built.shape.capacity;
         match fault {

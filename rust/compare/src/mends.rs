@@ -37,9 +37,9 @@ impl Run<'_> {
         let head = plain::header(image);
         let verdict = Verdict {
             number: answer.number,
+            place: answer.place,
             capacity: head.capacity,
             grain_size: head.grain_size,
-            ..Verdict::default()
         };
         self.count_accepted(Call::Mend, verdict, image);
     }

@@ -3,7 +3,7 @@
 use crate::ones;
 use crate::side::Side;
 use crate::tally::{Call, Tally};
-use plain::{Extent, Verdict, ABSENT, PACKED, STORED, ZERO};
+use plain::{Extent, Verdict};
 use std::fmt::Debug;
 use std::fs;
 use std::path::PathBuf;
@@ -105,9 +105,11 @@ impl<'a> Run<'a> {
     /// Rows of an accepted image, by what its header has.
     pub(crate) fn count_accepted(&mut self, call: Call, verdict: Verdict, image: &[u8]) {
         if verdict.number != 0 {
-            self.tally.refused(call, verdict.number);
-            if verdict.number == 5 && ones::flag_alone(image) {
-                self.tally.answered(call, "5, flag 0x4 alone");
+            self.tally.refused(call, verdict.number, verdict.place);
+            match verdict.number {
+                5 if ones::flag_alone(image) => self.tally.answered(call, "5, flag 0x4 alone"),
+                8 => self.count_outside(call, verdict.place, image),
+                _ => {}
             }
             return;
         }
@@ -135,69 +137,6 @@ impl<'a> Run<'a> {
                 self.tally.answered(call, row);
             }
         }
-    }
-
-    pub fn lookup(&mut self, image: &[u8], sector: u64) {
-        let answers = self.sides.map(|side| side.lookup(image, sector));
-        self.compare(
-            Call::Lookup,
-            [&answers[0], &answers[1]],
-            true,
-            &[image],
-            &sector,
-        );
-        self.count_located(Call::Lookup, answers[1].number, answers[1].kind);
-        self.count_source(Call::Lookup, answers[1], image, sector);
-    }
-
-    pub fn chain(&mut self, layers: &[u8], lengths: &[u64], sector: u64) {
-        let answers = self.sides.map(|side| side.chain(layers, lengths, sector));
-        let both = [&answers[0], &answers[1]];
-        self.compare(Call::Chain, both, true, &[layers], &(lengths, sector));
-        self.count_located(Call::Chain, answers[1].number, answers[1].kind);
-        if answers[1].number != 0 {
-            return;
-        }
-        let layer = answers[1].layer as usize;
-        if answers[1].kind != ABSENT && layer + 1 < lengths.len() {
-            self.tally.answered(Call::Chain, "under the top layer");
-        }
-        let from: u64 = lengths[..layer].iter().sum();
-        let image = &layers[from as usize..(from + lengths[layer]) as usize];
-        self.count_source(Call::Chain, answers[1], image, sector);
-    }
-
-    pub(crate) fn count_located(&mut self, call: Call, number: u64, kind: u64) {
-        if number != 0 {
-            self.tally.refused(call, number);
-            return;
-        }
-        let row = match kind {
-            ABSENT => "absent",
-            ZERO => "zero",
-            STORED => "stored",
-            PACKED => "packed",
-            _ => "unknown",
-        };
-        self.tally.answered(call, row);
-    }
-
-    pub fn read(&mut self, image: &[u8], sector: u64) {
-        let answers = self.sides.map(|side| side.read(image, sector));
-        self.compare(
-            Call::Read,
-            [&answers[0], &answers[1]],
-            true,
-            &[image],
-            &sector,
-        );
-        let row = match (answers[1].at % 512, answers[1].length) {
-            (_, 0) => "empty part",
-            (0, _) => "stored",
-            _ => "packed",
-        };
-        self.tally.answered(Call::Read, row);
-        self.count_source(Call::Read, plain::lookup(image, sector), image, sector);
     }
 
     pub fn normal(&mut self, image: &[u8], room: usize) {
@@ -232,8 +171,9 @@ impl<'a> Run<'a> {
         let lent = self.outs[0] == self.outs[1];
         self.compare(call, [&tested, &plain], lent, inputs, &room);
         if plain.number != 0 {
-            self.tally.refused(call, plain.number);
+            self.tally.refused(call, plain.number, plain.place);
             self.count_unwritten(call, plain.number, inputs, room);
+            self.count_layer(call, plain, inputs);
             return;
         }
         let exact = plain.length == room as u64;
@@ -257,7 +197,7 @@ impl<'a> Run<'a> {
             side.descriptor(text, list)
         });
         if plain.number != 0 {
-            self.tally.refused(Call::Descriptor, plain.number);
+            self.tally.refused(Call::Descriptor, plain.number, 0);
             return;
         }
         self.tally.answered(Call::Descriptor, "described");
@@ -273,7 +213,7 @@ impl<'a> Run<'a> {
         self.compare(Call::Find, [&answers[0], &answers[1]], true, &[], &words);
         match answers[1].number {
             0 => self.tally.answered(Call::Find, "found"),
-            number => self.tally.refused(Call::Find, number),
+            number => self.tally.refused(Call::Find, number, 0),
         }
     }
 

@@ -26,7 +26,7 @@ impl Run<'_> {
         let words = (lengths, sector);
         self.compare(Call::Split, both, true, &[text, files], &words);
         let located = answers[1];
-        self.count_located(Call::Split, located.number, located.kind);
+        self.count_located(Call::Split, located);
         let extents = plain::descriptor(text, plain::MOST_EXTENTS).1;
         match located.number {
             20 | 30..=36 => {}
@@ -73,6 +73,9 @@ impl Run<'_> {
             if holds {
                 self.tally.answered(Call::Split, row);
             }
+        }
+        if located.number == 8 {
+            self.count_outside(Call::Split, located.place, file);
         }
         if [3, 4].contains(&extent.kind) {
             self.count_source(Call::Split, located, file, sector - extent.first);

@@ -30,7 +30,7 @@ impl Run<'_> {
         let both = [&answers[0], &answers[1]];
         self.compare(Call::Survey, both, same, &[images], &words);
         if answers[1].number != 0 {
-            self.tally.refused(Call::Survey, answers[1].number);
+            self.tally.refused(Call::Survey, answers[1].number, 0);
             return;
         }
         self.count_rows(images, lengths, &lent[1][0]);

@@ -1,6 +1,7 @@
 //! What was reached: a count for each call and each answer or refusal that it gave.
 
 use crate::answers::{gives, ANSWERS};
+use crate::places::part;
 use std::fmt::{self, Write};
 
 #[derive(Clone, Copy, Debug, PartialEq, Eq)]
@@ -75,11 +76,14 @@ impl Tally {
         }
     }
 
-    pub fn refused(&mut self, call: Call, number: u64) {
-        if gives(number, call) {
-            self.refusals[number as usize][call as usize] += 1;
-        } else {
+    pub fn refused(&mut self, call: Call, number: u64, place: u64) {
+        if !gives(number, call) {
             self.strange += 1;
+            return;
+        }
+        self.refusals[number as usize][call as usize] += 1;
+        if number == 8 {
+            self.answered(call, part(place));
         }
     }
 

@@ -1,6 +1,7 @@
 //! Damage: one thing about an image changed, at an edge of a rule.
 
 use super::edges::{header_field, most, place};
+use super::outside::outside;
 use super::parts;
 use super::{Area, Built, Field, Plan, What};
 use crate::rng::Rng;
@@ -9,7 +10,8 @@ use crate::rng::Rng;
 pub fn damage(rng: &mut Rng, built: &mut Built, which: u64) {
     match which % 16 {
         0..=2 => header(rng, built),
-        3..=5 => move_area(rng, built),
+        3 | 4 => move_area(rng, built),
+        5 => outside(rng, built),
         6 => swap(rng, built),
         7 => parts::length(rng, built),
         8 => parts::cut_at_area(rng, built),
@@ -26,7 +28,7 @@ pub fn damage(rng: &mut Rng, built: &mut Built, which: u64) {
 pub fn suited(plan: Plan, which: u64) -> Plan {
     let (packed, redundant) = match which % 16 {
         9..=11 => (true, false),
-        12 => (false, true),
+        5 | 12 => (false, true),
         _ => return plan,
     };
     if plan.cowd == Some(true) {

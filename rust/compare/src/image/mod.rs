@@ -4,6 +4,7 @@ mod anywhere;
 mod build;
 mod damage;
 mod edges;
+mod outside;
 mod parts;
 mod shape;
 mod torn;

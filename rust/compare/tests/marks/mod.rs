@@ -159,7 +159,7 @@ impl Mistake {
         match (self, found.number) {
             (NothingCountedOn12, 12) => answer(12, 0),
             (CountedOn11, 11) | (CountedOn21, 21) => answer(found.number, 1),
-            (PlaceForgotten, _) => Marked { place: 0, ..found },
+            (PlaceForgotten, 9 | 10) => Marked { place: 0, ..found },
             (_, 0 | 12) => {
                 let areas = self.ordered(image);
                 let all: u64 = areas.iter().map(|area| area.2).sum();

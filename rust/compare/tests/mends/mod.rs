@@ -123,7 +123,11 @@ impl Mistake {
     fn judge(self, image: &[u8], good: u64) -> Judged {
         let framed = Plain.frame(image, &mut vec![0; 3 * 4096]);
         if framed.number != 0 {
-            return refused(self.headed(framed.number, image), image);
+            let mut judged = refused(self.headed(framed.number, image), image);
+            if judged.number == 8 {
+                judged.place = framed.place;
+            }
+            return judged;
         }
         if image.starts_with(b"COWD") || image[48..56] == [0; 8] {
             let number = if self == OneDirectoryIsMended { 0 } else { 40 };
