@@ -1,6 +1,10 @@
 //! What is stored for the program crates is what the plain implementation says.
 
+use std::collections::BTreeSet;
 use vectors::stored::{all, differing, root};
+
+/// The places of 8, as they are printed.
+const PLACES: [&str; 5] = ["1", "2", "3", "4", "5"];
 
 #[test]
 fn stored_files() {
@@ -54,6 +58,36 @@ fn both_meanings_of_1() {
         let named = |words: &Vec<&str>| words[1..].chunks(3).any(|area| area == table);
         assert!(words.iter().any(named), "no table {table:?}");
     }
+}
+
+/// Each place of 8 that a call can give, and no other: a lookup names the directory and a primary table alone.
+#[test]
+fn every_place_of_8() {
+    let output = std::fs::read_to_string(root().join("crates/cases/stdout")).unwrap();
+    let told = |call: &str, place: usize| -> BTreeSet<&str> {
+        let start = format!("{call} 8 ");
+        let lines = output.lines().filter_map(|line| line.strip_prefix(&start));
+        lines
+            .filter_map(|line| line.split(' ').nth(place))
+            .collect()
+    };
+    for call in ["check", "check_in", "frame", "mend", "normal", "collapse"] {
+        assert!(told(call, 0).into_iter().eq(PLACES), "{call}");
+    }
+    assert!(told("split", 1).into_iter().eq(PLACES));
+    for call in ["lookup", "chain"] {
+        assert!(told(call, 1).into_iter().eq(["2", "4"]), "{call}");
+    }
+    let surveys = output
+        .lines()
+        .filter_map(|line| line.strip_prefix("survey 0 "));
+    let mut rows = BTreeSet::new();
+    for words in surveys {
+        let words: Vec<&str> = words.split(' ').skip(5).collect();
+        let refused = words.chunks_exact(6).filter(|row| row[4] == "8");
+        rows.extend(refused.map(|row| row[5]));
+    }
+    assert!(rows.into_iter().eq(PLACES));
 }
 
 /// The stored cases reach each refusal that a call can give. 36 needs a longer text: tests/cases/texts has it. So do 3, 4 and 6 of

@@ -14,9 +14,9 @@ use std::collections::BTreeMap;
 use std::io;
 use std::path::{Path, PathBuf};
 
-const SEED: u64 = 21;
+const SEED: u64 = 25;
 /// How many of the generators' cases are tried.
-const TRIED: u64 = 20_000;
+const TRIED: u64 = 32_000;
 /// The program's limits.
 const MOST_LAYERS: usize = 17;
 const MOST_ROOM: u64 = 65_536;
@@ -85,6 +85,8 @@ fn wanted(case: &Case, answer: &str) -> u64 {
     let refused = !answer.contains(" 0 ");
     match (is_short(case), refused) {
         (true, _) => 15,
+        // By its place one is enough.
+        _ if answer.contains(" 8 at ") => 1,
         (false, _) if [SURVEY, SPLIT, CHECK_IN, MEND].contains(&case.asked) => 1,
         (false, true) => 2,
         // By all its groups, by its dirty number, or at sector 1, one is enough.
@@ -122,11 +124,17 @@ fn fits(case: &Case) -> bool {
     case.bytes.len() <= most && short && !cut
 }
 
-/// What kinds of answers a line has: a tally one for each refusal number, mending one for each row of the comparison's table,
-/// any other line one.
+/// What kinds of answers a line has: a tally one for each refusal number, a survey one for each place of 8 in its rows, mending one
+/// for each row of the comparison's table, any other line one.
 fn kinds(case: &Case, line: &str) -> Vec<String> {
     if case.asked == MEND {
         return mended(case, line);
+    }
+    if let Some(words) = line.strip_prefix("survey 0 ") {
+        let words: Vec<&str> = words.split(' ').skip(5).collect();
+        let rows = words.chunks_exact(6).filter(|row| row[4] == "8");
+        let places = rows.map(|row| format!("survey's 8 at {}", row[5]));
+        return places.chain([kind(case, line)]).collect();
     }
     let counts = match line.strip_prefix("tally ") {
         Some(counts) => counts.split(' ').enumerate(),
@@ -144,6 +152,10 @@ fn kind(case: &Case, line: &str) -> String {
     let cowd = case.bytes.starts_with(b"COWD");
     match call {
         "record" => call.to_string(),
+        "lookup" | "chain" | "split" if number == "8" => format!("{call} 8 at {}", words[3]),
+        "check" | "check_in" | "frame" | "normal" | "collapse" if number == "8" => {
+            format!("{call} 8 at {}", words[2])
+        }
         // By what an entry of 1 is, or flag 0x4 in version 1.
         "check" if !cowd && ["0", "5", "11", "12"].contains(&number) => {
             let (first, flag) = (case.bytes[4] == 1, case.bytes[8] & 0x4);
@@ -220,6 +232,9 @@ fn mended(case: &Case, line: &str) -> Vec<String> {
     };
     let (good, room) = (case.lengths[0], case.lengths[1] as usize);
     let mut kinds = vec![format!("mend {number} {}", good != 0)];
+    if number == 8 {
+        kinds.push(format!("mend 8 at {place}"));
+    }
     if count > 0 {
         let image = &case.bytes;
         let zeros = image[4] > 1 && image[8] & 0x4 != 0;
