@@ -38,6 +38,12 @@ impl Tables {
         })
     }
 
+    /// The sectors of the directory's entries in use; one more where they fill the last.
+    fn directory_part(&self) -> (u64, u64) {
+        let sectors = self.used * ENTRY / SECTOR + 1;
+        (self.directory, self.directory.saturating_add(sectors))
+    }
+
     /// The sectors of each table that the directory names.
     fn parts(&self, own: &[u8]) -> Vec<(u64, u64)> {
         let sectors = self.entries * ENTRY / SECTOR;
@@ -94,17 +100,21 @@ pub fn with_entry<T>(
     Some(seen)
 }
 
-/// Copies directory and tables: what a lookup reads, also in an image that has no list of its frame.
+/// Copies the directory, also of an image that has no list of its frame.
+pub fn copy_directory(layer: &Layer, own: &mut [u8]) -> Result<(), Failure> {
+    match Tables::of(own) {
+        Some(tables) => copy_parts(layer, own, vec![tables.directory_part()]),
+        None => Ok(()),
+    }
+}
+
+/// Copies directory and tables: what a lookup reads, also in such an image.
 pub fn copy_tables(layer: &Layer, own: &mut [u8]) -> Result<(), Failure> {
-    let tables = match Tables::of(own) {
-        Some(tables) => tables,
-        None => return Ok(()),
-    };
-    let end = tables
-        .directory
-        .saturating_add(tables.used * 4 / SECTOR + 1);
-    copy_parts(layer, own, vec![(tables.directory, end)])?;
-    copy_parts(layer, own, tables.parts(own))
+    copy_directory(layer, own)?;
+    match Tables::of(own) {
+        Some(tables) => copy_parts(layer, own, tables.parts(own)),
+        None => Ok(()),
+    }
 }
 
 /// Whether markers decide: by the flag of a KDMV image whose grains are packed. Elsewhere they are copied for nothing at most.

@@ -3,10 +3,11 @@
 //! A law of the library says that two images of one length that agree in the frame of the one, but for its descriptor, and in the
 //! markers if it is packed, have the same check and the same lookups. So own bytes that have these answer as the file does.
 
+use crate::entries::copy_directory;
 use crate::failure::Failure;
 use crate::layer::Layer;
 use crate::own::Own;
-use anhkhovet::{Area, Group, Refusal, SECTOR};
+use anhkhovet::{Area, Group, MisplacedPart, Refusal, SECTOR};
 use std::collections::HashSet;
 
 /// Here are header and footer. The header of a COWD image takes 2,048 bytes; a footer and the sector after it are the last
@@ -25,7 +26,7 @@ pub fn copy(layer: &Layer, own: &mut [u8]) -> Result<Result<Vec<Area>, Refusal>,
     for _ in 0..ROUNDS {
         let mut areas = match anhkhovet::frame(own) {
             Ok(areas) => areas,
-            Err(refusal) => return Ok(Err(refusal)),
+            Err(refusal) => return lowest(layer, own, refusal).map(Err),
         };
         // Its bytes decide nothing, and a header may give it a whole disk.
         areas.retain(|area| area.group != Group::Descriptor);
@@ -41,6 +42,17 @@ pub fn copy(layer: &Layer, own: &mut [u8]) -> Result<Result<Vec<Area>, Refusal>,
     }
     // Areas that overlap are copied twice, and were not the same both times.
     Err(Failure::changed(&layer.path))
+}
+
+/// A refusal with the lowest part. Header and footer tell of the first three; but a redundant table may be named by what stands at
+/// either end of the file, before the directory is copied that names a primary one.
+fn lowest(layer: &Layer, own: &mut [u8], refusal: Refusal) -> Result<Refusal, Failure> {
+    if refusal.part() != Some(MisplacedPart::RedundantTable) {
+        return Ok(refusal);
+    }
+    copy_directory(layer, own)?;
+    let refused = anhkhovet::frame(own).err();
+    refused.ok_or_else(|| Failure::changed(&layer.path))
 }
 
 /// Own bytes with header and footer alone.

@@ -1,9 +1,10 @@
-//! What helps on after a refusal: a descriptor is no image, and copies that differ can be mended.
+//! What helps on after a refusal: a descriptor is no image, lookups need few of an image's parts, and copies that differ can be
+//! mended.
 
 use crate::described::{Described, Opened};
 use crate::failure::{Failure, Refusal};
 use crate::names::name;
-use anhkhovet::ExtentKind;
+use anhkhovet::{ExtentKind, MisplacedPart};
 use std::path::Path;
 
 const DESCRIPTOR: &str = "it is a descriptor, which `anhkhovet describe` reads";
@@ -11,8 +12,12 @@ const DESCRIPTOR: &str = "it is a descriptor, which `anhkhovet describe` reads";
 const COPIES: &str =
     "`anhkhovet mend` lists the entries of tables that differ, and mends one side from the other in a copy";
 
+const SERVED: &str =
+    "`anhkhovet sector`, `read`, `map` and `digest` of the image itself do without it";
+
 /// A refusal with what could be done instead, where that is known: of a descriptor that is handed in where single images are
-/// taken, and of an image whose two directories or their tables differ.
+/// taken, of an image with a part outside the file that lookups do not need, and of one whose two directories or their tables
+/// differ.
 pub fn hinted(failure: Failure) -> Failure {
     match failure {
         Failure::Refused(refusal) => Failure::Refused(detailed(refusal)),
@@ -26,6 +31,7 @@ pub fn hinted(failure: Failure) -> Failure {
 fn detailed(mut refusal: Refusal) -> Refusal {
     let hint = match (refusal.why.number, &refusal.file) {
         (2, Some(file)) => hint(file),
+        (8, _) => refusal.why.part().map_or("", without).to_string(),
         (11, _) => COPIES.to_string(),
         _ => String::new(),
     };
@@ -37,6 +43,16 @@ fn detailed(mut refusal: Refusal) -> Refusal {
         .collect();
     refusal.detail = parts.join("; ");
     refusal
+}
+
+/// What does without a part of an image: lookups go by the directory and its tables.
+fn without(part: MisplacedPart) -> &'static str {
+    match part {
+        MisplacedPart::Directory | MisplacedPart::PrimaryTable => "",
+        MisplacedPart::Descriptor
+        | MisplacedPart::RedundantDirectory
+        | MisplacedPart::RedundantTable => SERVED,
+    }
 }
 
 /// Nothing where the file is no descriptor.

@@ -98,10 +98,11 @@ fn a_table_past_the_end() {
     disk.length(512 * (disk.start + GRAIN));
     let verdict = run(folder.path(), &["check", "disk"]);
     assert_eq!(verdict.status, Some(1));
-    assert!(verdict.text().contains("refused 8"), "{}", verdict.text());
+    let told = verdict.text();
+    assert!(told.contains("refused 8: a primary table "), "{told}");
     let ran = run(folder.path(), &["read", "disk", "0"]);
     assert_eq!(&ran.well().out[..5], b"here\0");
-    run(folder.path(), &["sector", "disk", "65536"]).ended(1, "refused 8");
+    run(folder.path(), &["sector", "disk", "65536"]).ended(1, "refused 8: a primary table ");
 }
 
 /// The most memory that a program run by this one has had, in KiB.
@@ -139,7 +140,8 @@ fn little_is_read() {
     let ran = run(folder.path(), &["read", "base", "2000"]);
     assert_eq!(ran.well().out, [b'x'; 512]);
     let verdict = run(folder.path(), &["check", "base"]);
-    assert!(verdict.text().contains("refused 8"), "{}", verdict.text());
+    let told = verdict.text();
+    assert!(told.contains("refused 8: the descriptor "), "{told}");
     sparse(&folder.at("long"));
     run(folder.path(), &["sector", "long", "0"]).well();
     let most = most_memory();

@@ -127,7 +127,7 @@ fn a_descriptor_out_of_place_is_refused_by_its_place() {
         (1024, 0),
     ] {
         holding(&folder, first, sectors, 1 << 20);
-        run(folder.path(), &["describe", "image"]).ended(1, "image: refused 8: ");
+        run(folder.path(), &["describe", "image"]).ended(1, "image: refused 8: the descriptor ");
     }
 }
 

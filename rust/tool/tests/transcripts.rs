@@ -11,6 +11,8 @@ mod dirty;
 mod disks;
 #[path = "common/mends.rs"]
 mod mends;
+#[path = "common/outside.rs"]
+mod outside;
 
 use common::{run, Folder};
 use std::fs;
@@ -91,6 +93,7 @@ fn transcript(name: &str) {
     disks::add(&folder);
     dirty::add(&folder);
     mends::add(&folder);
+    outside::add(&folder);
     add_files(&folder);
 
     let mut now = String::new();
@@ -132,4 +135,6 @@ macro_rules! transcripts {
     };
 }
 
-transcripts!(check survey sector read map digest collapse normal describe refusals split still_open mend);
+transcripts!(
+    check survey sector read map digest collapse normal describe refusals outside split still_open mend
+);

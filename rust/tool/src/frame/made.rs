@@ -140,7 +140,11 @@ impl Made {
     fn tables(&mut self, form: &Form) -> (u64, u64) {
         let n = form.directory_entries();
         let sectors = form.entries() * 4 / 512;
-        let directories = [self.area(1), if form.redundant { self.area(1) } else { 0 }];
+        let mut directories = [self.area(1), if form.redundant { self.area(1) } else { 0 }];
+        // The copy may stand first.
+        if form.redundant && self.chance.once_in(2) {
+            directories.reverse();
+        }
         for entry in 0..n {
             let none = self.chance.once_in(8);
             let word = self.chance.below(form.none());

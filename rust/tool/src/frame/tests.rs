@@ -55,6 +55,8 @@ fn why(failure: Failure) -> Refusal {
 struct Met {
     accepted: u64,
     refused: [u64; 13],
+    /// Of 8, by the part that is named.
+    outside: [u64; 5],
     /// Sectors that have an answer in an image whose frame is refused.
     broken: u64,
     packed: u64,
@@ -80,7 +82,12 @@ impl Met {
         assert_eq!(told, anhkhovet::check(whole), "{path:?}");
         match told {
             Ok(_) => self.accepted += 1,
-            Err(refusal) => self.refused[refusal.number as usize] += 1,
+            Err(refusal) => {
+                self.refused[refusal.number as usize] += 1;
+                if let Some(part) = refusal.part() {
+                    self.outside[part as usize] += 1;
+                }
+            }
         }
         let mut frame = anhkhovet::frame(whole).unwrap_or_default();
         frame.retain(|area| area.group != Group::Descriptor);
@@ -178,6 +185,7 @@ fn own_bytes_answer_as_the_whole_file() {
     println!("{met:?}");
     let all = [1, 2, 3, 5, 6, 7, 8, 9, 10, 11, 12];
     assert!(all.iter().all(|&number| met.refused[number] > 0), "{met:?}");
+    assert!(met.outside.iter().all(|&part| part > 0), "{met:?}");
     assert!(
         met.accepted > IMAGES / 4
             && met.broken > 1000
