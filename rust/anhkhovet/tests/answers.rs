@@ -4,8 +4,7 @@ mod common;
 
 use anhkhovet::{
     chain, check, collapse, descriptor, find, header, lookup, normal, raw, read, read_part, Access,
-    ChainRefusal, Counted, Disk, Extent, ExtentKind, Header, Located, MisplacedPart, Refusal,
-    Source,
+    ChainRefusal, Counted, Disk, Extent, ExtentKind, Header, Located, Refusal, Source,
 };
 use common::image;
 
