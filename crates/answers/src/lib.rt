@@ -63,6 +63,7 @@ fn numbers_of(refusal: Refusal) -> Numbers
         Refusal::LayerLengths => Numbers(24, 0),
         Refusal::StillOpen => Numbers(27, 0),
         Refusal::NotMendable => Numbers(40, 0),
+        Refusal::NotMovable => Numbers(44, 0),
     }
 }
 

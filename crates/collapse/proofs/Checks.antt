@@ -28,7 +28,7 @@ module _ (s : List ℕ) (h : Header) where
   unfolding grainSectors pick
   whole plain e = rw plain
 
-  readable : Checked s h → h .packed ≡ false → Readable s h
+  pub readable : Checked s h → h .packed ≡ false → Readable s h
   readable c plain =
       let p = c .filed .placed in record {
         sound = p .sound;

@@ -1,5 +1,5 @@
 -- What each part answers and leaves in the output, each premise as the code gives it.
-use Prim.Native.Nat.{ℕ, _≤_, _<_}
+use Prim.Native.Nat.{ℕ, _*_, _≤_, _<_}
 use mathlib.Core.Path.{_≡_, refl, sym, ap, _∙_}
 use mathlib.Core.List.{List}
 use mathlib.Core.Bool.{Bool, true, false, _||_}
@@ -14,6 +14,7 @@ use Rattle.format.specs.Chain.{unlike}
 use Rattle.format.specs.Grains.{Map, merge, grainMap}
 use Rattle.format.specs.Collapse.{mapOf, laidLength, normalForm, collapsed, ifAccepted, notCollapsible, stillOpen}
 use Rattle.format.specs.Collapse.{writtenIfRoom, normalFrom, collapseFrom, output}
+use Rattle.format.specs.declared.Kind.the-variants.{Kdmv}
 use Rattle.format.specs.declared.Header.{Header}
 use Rattle.format.specs.declared.Refusal.{Refusal}
 use Rattle.format.specs.declared.Refusal.the-variants.{TooLittleRoom, LayersDiffer, NotCollapsible, StillOpen}
@@ -30,28 +31,37 @@ use Rattle.accept.specs.AcceptedHeader.{acceptedHeader, Checked}
 use Rattle.collapse.specs.Answered.{collapseAccepted, Answered}
 
 -- a refusal leaves the output as it was
-refused : (a : CollapseAnswer) (image d : List ℕ) (r : Refusal) → Refused r ≡ a → Answered a image d (Refused r) d
+pub refused : (a : CollapseAnswer) (image d : List ℕ) (r : Refusal) → Refused r ≡ a → Answered a image d (Refused r) d
 unfolding output
 refused a image d r e = record { told = e; left = rw (← e) }
 
 -- the same answer under another name
-as-well : {a b r : CollapseAnswer} {i d x : List ℕ} → b ≡ a → Answered a i d r x → Answered b i d r x
+pub as-well : {a b r : CollapseAnswer} {i d x : List ℕ} → b ≡ a → Answered a i d r x → Answered b i d r x
 as-well e p = rw e p
 
--- ---- 21
-module _ (long room : ℕ) (all : ℕ) (e : long ≡ all) (image d : List ℕ) where
-  pub too-short : room < long → Answered (writtenIfRoom room all) image d (Refused TooLittleRoom) d
-  unfolding writtenIfRoom
-  too-short h = let l : room < all = omega arith in refused _ image d TooLittleRoom (stop-lt _ _ _ _ _ l refl)
+-- ---- one refusal in an order
+module _ {a b : Bool} (r : Refusal) (x : CollapseAnswer) (image d : List ℕ) (e : a ≡ b) where
+  pub refused-here : a ≡ true → Answered (pick b (Refused r) x) image d (Refused r) d
+  refused-here t = refused _ image d r (stop _ _ _ e t refl)
 
-  pub written : long ≤ room → (x : List ℕ) → x ≡ over d 0 image → Answered (writtenIfRoom room all) image d (Written long) x
+  pub not-here : a ≡ false → {z : CollapseAnswer} {y : List ℕ} → Answered x image d z y
+      → Answered (pick b (Refused r) x) image d z y
+  not-here n p = as-well (sym (skip _ _ _ e n refl)) p
+
+-- ---- 21
+module _ (sectors room : ℕ) (all : ℕ) (e : sectors ≡ all) (image d : List ℕ) where
+  pub too-short : room < 512 * sectors → Answered (writtenIfRoom room (512 * all)) image d (Refused TooLittleRoom) d
+  unfolding writtenIfRoom
+  too-short h = let l : room < 512 * all = omega arith in refused _ image d TooLittleRoom (stop-lt _ _ _ _ _ l refl)
+
+  pub written : 512 * sectors ≤ room → (x : List ℕ) → x ≡ over d 0 image
+      → Answered (writtenIfRoom room (512 * all)) image d (Written (512 * sectors)) x
   unfolding writtenIfRoom output
   written h x p =
-      let l : all ≤ room = omega arith in
-      let t : Written long ≡ pick (ltb room all) (Refused TooLittleRoom) (Written all) = skip-lt _ _ _ _ _ l (ap Written e) in
+      let l : 512 * all ≤ room = omega arith in
+      let t : Written (512 * sectors) ≡ pick (ltb room (512 * all)) (Refused TooLittleRoom) (Written (512 * all)) =
+      skip-lt _ _ _ _ _ l (ap (λ (n : ℕ). Written (512 * n)) e) in
       record { told = t; left = rw (← t) p }
-
-pub ruleset rooms = (too-short, written)
 
 -- ---- 27
 module _ {a b lower upper : Bool} (x : CollapseAnswer) (image d : List ℕ) (e : a ≡ lower) (f : b ≡ upper) where
@@ -59,11 +69,11 @@ module _ {a b lower upper : Bool} (x : CollapseAnswer) (image d : List ℕ) (e :
   either = rw (e, f)
 
   pub not-clean : (a || b) ≡ true → Answered (pick (lower || upper) (Refused StillOpen) x) image d (Refused StillOpen) d
-  not-clean t = refused _ image d StillOpen (stop _ _ _ either t refl)
+  not-clean t = refused-here StillOpen x image d either t
 
   pub then-clean : (a || b) ≡ false → {r : CollapseAnswer} {y : List ℕ} → Answered x image d r y
       → Answered (pick (lower || upper) (Refused StillOpen) x) image d r y
-  then-clean n p = as-well (sym (skip _ _ _ either n refl)) p
+  then-clean n p = not-here StillOpen x image d either n p
 
 -- ---- 23, 22, and what comes after them
 module _ {a b : Bool} (h k : Header) (m : Map) (room : ℕ) (image d : List ℕ) (e : a ≡ notCollapsible h)
@@ -109,7 +119,7 @@ module _ (s : List ℕ) (a : HeaderAnswer) (e : a ≡ acceptedHeader (check s) (
 -- the layers' headers are those that their bytes tell
 pub layers-as : (lower upper : List ℕ) (h k : Header) → Checked lower h → Checked upper k
     → (room : ℕ) {d : List ℕ} {r : CollapseAnswer} {y : List ℕ}
-    → Answered (collapseFrom h k (layered lower h upper k) room) (imageOf lower h upper k) d r y
+    → Answered (collapseFrom h k (layered lower h upper k) room) (imageOf Kdmv lower h upper k) d r y
     → Answered (collapseAccepted lower upper room) (collapsed lower upper) d r y
 layers-as lower upper h k c g room p = rw (c .is, g .is) at p
 
@@ -118,7 +128,7 @@ or-same : (b : Bool) → (b || b) ≡ b
 or-same true = refl
 or-same false = refl
 
-merge-same : (m : Map) → merge m m ≡ m
+pub merge-same : (m : Map) → merge m m ≡ m
 merge-same m = λ i g. onto-self (m g) i
 
 itself : (h : Header) (m : Map) (room : ℕ) → collapseFrom h h (merge m m) room ≡ normalFrom h m room
@@ -126,7 +136,7 @@ unfolding collapseFrom normalFrom pick
 itself h m room = rw (or-same (notCollapsible h), like h h refl refl, or-same (stillOpen h), merge-same m)
 
 pub normal-as : (s : List ℕ) (h : Header) → Checked s h → (room : ℕ) {d : List ℕ} {r : CollapseAnswer} {y : List ℕ}
-    → Answered (collapseFrom h h (layered s h s h) room) (imageOf s h s h) d r y
+    → Answered (collapseFrom h h (layered s h s h) room) (imageOf Kdmv s h s h) d r y
     → Answered (normalFrom (headerOf s) (mapOf s) room) (normalForm s) d r y
 normal-as s h c room p = rw (c .is) at (rw (itself h (grainMap s h) room, merge-same (grainMap s h)) at p)
 

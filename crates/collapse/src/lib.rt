@@ -6,6 +6,7 @@ ghost use Rattle.base.specs.Pick.{pick};
 ghost use Rattle.format.specs.Check.{check};
 ghost use Rattle.format.specs.Collapse.{collapsed, ifAccepted, notCollapsible, stillOpen, writtenIfRoom, normal, normalOutput};
 ghost use Rattle.format.specs.Collapse.{collapseFrom, collapse, collapseOutput};
+ghost use Rattle.format.specs.declared.Kind.the-variants.{Kdmv};
 ghost use Rattle.format.specs.declared.Refusal.the-variants.{StillOpen};
 ghost use Rattle.format.specs.declared.CollapseAnswer.the-variants.{Refused};
 ghost use Rattle.layers.specs.TwoLayers.{layered, imageOf, lengthOf, Layers};
@@ -14,6 +15,7 @@ ghost use Rattle.collapse.specs.Answered.{collapseAccepted, Answered};
 use format::CollapseAnswer;
 use format::Header;
 use format::HeaderAnswer;
+use format::Kind;
 use format::Refusal;
 
 fn not_collapsible(h: Header) -> bool
@@ -23,24 +25,32 @@ fn not_collapsible(h: Header) -> bool
 }
 
 // Any number but 0.
-fn still_open(h: Header) -> bool
+pub fn still_open(h: Header) -> bool
     ensures { λ r. ⌜ r ≡ stillOpen h ⌝ }
 {
     !(h.dirty == 0)
 }
 
-// 21, or the image written.
-fn write_fitted(lower: &[u8], h: Header, upper: &[u8], k: Header, out: &mut [u8]) -> CollapseAnswer
+// 21, or the image of a kind written.
+pub fn write_fitted(
+    kind: Kind,
+    lower: &[u8],
+    h: Header,
+    upper: &[u8],
+    k: Header,
+    out: &mut [u8],
+) -> CollapseAnswer
     requires { ⌜ Layers (now lower) h (now upper) k ⌝ }
     ensures { λ r.
-        ⌜ Answered (writtenIfRoom (length (now (out .entry))) (lengthOf (now (lower .entry)) h (now (upper .entry)) k))
-        (imageOf (now (lower .entry)) h (now (upper .entry)) k) (now (out .entry)) r (now (out .exit)) ⌝ }
+        ⌜ Answered (writtenIfRoom (length (now (out .entry))) (lengthOf kind (now (lower .entry)) h (now (upper .entry)) k))
+        (imageOf kind (now (lower .entry)) h (now (upper .entry)) k) (now (out .entry)) r (now (out .exit)) ⌝ }
 {
-    let long = writer::image_length(lower, h, upper, k);
+    let sectors = writer::image_sectors(kind, lower, h, upper, k);
+    let long = 512 * sectors;
     if (out.len() as u64) < long {
         return CollapseAnswer::Refused(Refusal::TooLittleRoom);
     }
-    writer::write_image(&mut *out, lower, h, upper, k);
+    writer::write_image(&mut *out, kind, sectors, lower, h, upper, k);
     CollapseAnswer::Written(long)
 }
 
@@ -49,13 +59,13 @@ fn write_clean(lower: &[u8], h: Header, upper: &[u8], k: Header, out: &mut [u8])
     requires { ⌜ Layers (now lower) h (now upper) k ⌝ }
     ensures { λ r.
         ⌜ Answered (pick (stillOpen h || stillOpen k) (Refused StillOpen)
-        (writtenIfRoom (length (now (out .entry))) (lengthOf (now (lower .entry)) h (now (upper .entry)) k)))
-        (imageOf (now (lower .entry)) h (now (upper .entry)) k) (now (out .entry)) r (now (out .exit)) ⌝ }
+        (writtenIfRoom (length (now (out .entry))) (lengthOf Kdmv (now (lower .entry)) h (now (upper .entry)) k)))
+        (imageOf Kdmv (now (lower .entry)) h (now (upper .entry)) k) (now (out .entry)) r (now (out .exit)) ⌝ }
 {
     if still_open(h) | still_open(k) {
         return CollapseAnswer::Refused(Refusal::StillOpen);
     }
-    write_fitted(lower, h, upper, k, &mut *out)
+    write_fitted(Kind::Kdmv, lower, h, upper, k, &mut *out)
 }
 
 // Of two accepted images: 23, 22, 27, 21.
@@ -69,7 +79,7 @@ fn collapse_layers(
     requires { ⌜ Checked (now lower) h × Checked (now upper) k ⌝ }
     ensures { λ r.
         ⌜ Answered (collapseFrom h k (layered (now (lower .entry)) h (now (upper .entry)) k) (length (now (out .entry))))
-        (imageOf (now (lower .entry)) h (now (upper .entry)) k) (now (out .entry)) r (now (out .exit)) ⌝ }
+        (imageOf Kdmv (now (lower .entry)) h (now (upper .entry)) k) (now (out .entry)) r (now (out .exit)) ⌝ }
 {
     if not_collapsible(h) | not_collapsible(k) {
         return CollapseAnswer::Refused(Refusal::NotCollapsible);

@@ -9,7 +9,7 @@ use Rattle.format.specs.declared.Refusal.{Refusal}
 use Rattle.format.specs.declared.Refusal.the-variants.{TooShort, Magic, Version, Newline, Flags, Sizes, Footer, Misplaced}
 use Rattle.format.specs.declared.Refusal.the-variants.{GrainPast, Marker, CopiesDiffer, SharedSector, SectorPast}
 use Rattle.format.specs.declared.Refusal.the-variants.{TooLittleRoom, LayersDiffer, NotCollapsible, LayerLengths}
-use Rattle.format.specs.declared.Refusal.the-variants.{StillOpen, NotMendable}
+use Rattle.format.specs.declared.Refusal.the-variants.{StillOpen, NotMendable, NotMovable}
 use Rattle.format.specs.declared.Source.{Source}
 use Rattle.format.specs.declared.Source.the-variants.{Absent, Zero, Stored, Packed}
 use Rattle.format.specs.declared.HeaderAnswer.{HeaderAnswer}
@@ -61,6 +61,7 @@ number NotCollapsible = 23
 number LayerLengths = 24
 number StillOpen = 27
 number NotMendable = 40
+number NotMovable = 44
 
 -- the parts of 8 (request A8)
 abbrev pub partNumber : MisplacedPart → ℕ
@@ -92,6 +93,7 @@ place NotCollapsible = 0
 place LayerLengths = 0
 place StillOpen = 0
 place NotMendable = 0
+place NotMovable = 0
 
 -- ---- a header alone: the descriptor's numbers as it has them, 0 for COWD, and of either kind the dirty number. None is judged
 -- here: 8 and 27 are no rules of the header

@@ -12,6 +12,7 @@ pub mod Chain
 pub mod Grains
 pub mod Layout
 pub mod Collapse
+pub mod Moves
 pub mod Answers
 pub mod Survey
 pub mod CheckIn

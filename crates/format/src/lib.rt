@@ -59,8 +59,8 @@ pub enum MisplacedPart {
     RedundantTable,
 }
 
-// Why a call on images refuses, in the order of its numbers: 1 to 12, 20 to 24, 27, 40. A case holds the part or the grain that
-// is its place.
+// Why a call on images refuses, in the order of its numbers: 1 to 12, 20 to 24, 27, 40, 44. A case holds the part or the grain
+// that is its place.
 pub enum Refusal {
     TooShort,
     Magic,
@@ -81,6 +81,13 @@ pub enum Refusal {
     LayerLengths,
     StillOpen,
     NotMendable,
+    NotMovable,
+}
+
+// As an image of which kind grains are written.
+pub enum Kind {
+    Kdmv,
+    Cowd,
 }
 
 // Whose tables are good where the two directories' tables differ.

@@ -7,7 +7,9 @@ use Rattle.format.specs.Header.{grainsOf, directoryEntriesOf}
 use Rattle.format.specs.Entries.{meaningAt, grainEntry}
 use Rattle.format.specs.Grains.{Grain, Map, merge, clip, grainMap}
 use Rattle.format.specs.Grains.Grain.{absent, zeroed, stored}
-use Rattle.format.specs.Collapse.{laidOut, laidLength}
+use Rattle.format.specs.Layout.{sectorsLaid}
+use Rattle.format.specs.Moves.{laidAs, laidLengthAs}
+use Rattle.format.specs.declared.Kind.{Kind}
 use Rattle.format.specs.declared.Header.{Header}
 use Rattle.format.specs.declared.Entry.{Entry}
 use Rattle.format.specs.declared.Entry.the-variants.{Absent as noEntry, Zero as zeroEntry, Sector}
@@ -40,15 +42,18 @@ grainAt lower upper capacity size g Zero = zeroed
 grainAt lower upper capacity size g (Lower e) = stored (clip capacity size g (drop (512 * e) lower))
 grainAt lower upper capacity size g (Upper e) = stored (clip capacity size g (drop (512 * e) upper))
 
--- the map of both layers, and the image of that map and its length
+-- the map of both layers, and the image of that map of a kind, and its length in sectors and bytes
 abbrev pub layered : List ℕ → Header → List ℕ → Header → Map
 layered lower h upper k = merge (grainMap lower h) (grainMap upper k)
 
-abbrev pub imageOf : List ℕ → Header → List ℕ → Header → List ℕ
-imageOf lower h upper k = laidOut h (layered lower h upper k)
+abbrev pub imageOf : Kind → List ℕ → Header → List ℕ → Header → List ℕ
+imageOf kind lower h upper k = laidAs kind h (layered lower h upper k)
 
-abbrev pub lengthOf : List ℕ → Header → List ℕ → Header → ℕ
-lengthOf lower h upper k = laidLength h (layered lower h upper k)
+abbrev pub sectorsOf : Kind → List ℕ → Header → List ℕ → Header → ℕ
+sectorsOf kind lower h upper k = sectorsLaid kind (h .capacity) (h .«grain_size») (layered lower h upper k)
+
+abbrev pub lengthOf : Kind → List ℕ → Header → List ℕ → Header → ℕ
+lengthOf kind lower h upper k = laidLengthAs kind h (layered lower h upper k)
 
 -- ---- what is known of an accepted layer that is not compressed: its entries in use and the grains that they name lie in it
 pub record Readable (s : List ℕ) (h : Header) : Type 0 where

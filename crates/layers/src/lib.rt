@@ -18,7 +18,7 @@ pub enum GrainSource {
 }
 
 // What the layer's directory and tables say of grain g.
-fn entry_of(image: &[u8], h: Header, g: u64) -> Entry
+pub fn entry_of(image: &[u8], h: Header, g: u64) -> Entry
     requires { ⌜ Readable (now image) h × (g < grainsOf h) ⌝ }
     ensures { λ r. ⌜ r ≡ grainEntry (now (image .entry)) h g ⌝ }
 {

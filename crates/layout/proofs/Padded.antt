@@ -15,7 +15,8 @@ use Rattle.base.proofs.Over.{first, last, zeros-add}
 use Rattle.base.proofs.Rows.{rows-same}
 use Rattle.format.proofs.Picked.{pick-then, pick-else}
 use Rattle.format.specs.Geometry.{directorySectors}
-use Rattle.format.specs.Layout.{tableCount, tablesAt, directoryBytes}
+use Rattle.format.specs.Layout.{headSectors, sectorsPerTable, tableCount, tablesAt, directoryBytes}
+use Rattle.format.specs.declared.Kind.{Kind}
 use Rattle.layout.proofs.PartSizes.{directory-fits}
 use Rattle.layout.proofs.EntryRuns.{entries-long}
 
@@ -48,19 +49,26 @@ module _ (used : ℕ) (e : ℕ → ℕ) where
       one-more all h
 
 -- ---- the directory: the entries in use, and zeros up to the first table
-module _ (c z : ℕ) where
-  directory-is : directoryBytes c z
-      ≡ entryBytes (tableCount c z) (λ d. tablesAt c z + 4 * d) ++ zeros (512 * tablesAt c z - (512 + 4 * tableCount c z))
+module _ (kind : Kind) (c z : ℕ) where
+  -- the byte where it begins
+  abbrev from : ℕ
+  from = 512 * headSectors kind
+
+  directory-is : directoryBytes kind c z
+      ≡ entryBytes (tableCount kind c z) (λ d. tablesAt kind c z + sectorsPerTable kind * d)
+      ++ zeros (512 * tablesAt kind c z - (from + 4 * tableCount kind c z))
   unfolding directoryBytes tablesAt
   directory-is =
-      let n = tableCount c z in
-      let l : n ≤ 128 * directorySectors n = omega (arith, directory-fits c z) in
-      let q : 4 * (128 * directorySectors n - n) ≡ 512 * (1 + directorySectors n) - (512 + 4 * n) = omega arith in
-      entries-padded n (λ d. 1 + directorySectors n + 4 * d) (128 * directorySectors n) l ∙ rw q
+      let n = tableCount kind c z in
+      let l : n ≤ 128 * directorySectors n = omega (arith, directory-fits kind c z) in
+      let q : 4 * (128 * directorySectors n - n) ≡ 512 * (headSectors kind + directorySectors n) - (from + 4 * n) = omega arith in
+      entries-padded n (λ d. headSectors kind + directorySectors n + sectorsPerTable kind * d) (128 * directorySectors n) l
+      ∙ rw q
 
-  pub directory-join : (d x y : List ℕ) (n t : ℕ) → y ≡ over x (512 + 4 * n) (zeros (512 * t - (512 + 4 * n)))
-      → x ≡ over d 512 (entryBytes n (λ k. t + 4 * k))
-      → n ≡ tableCount c z → t ≡ tablesAt c z → 512 ≤ length d → y ≡ over d 512 (directoryBytes c z)
-  directory-join d x y n t q p e f h =
-      last _ _ _ _ _ _ _ q (first _ _ _ _ (512 + 4 * n) p h (ap (λ (i : ℕ). 512 + i) (entries-long _ n)))
-      ∙ rw (e, f, directory-is)
+  pub directory-join : (d x y : List ℕ) (b k n t : ℕ) → y ≡ over x (512 * b + 4 * n) (zeros (512 * t - (512 * b + 4 * n)))
+      → x ≡ over d (512 * b) (entryBytes n (λ i. t + k * i))
+      → b ≡ headSectors kind → k ≡ sectorsPerTable kind → n ≡ tableCount kind c z → t ≡ tablesAt kind c z
+      → 512 * b ≤ length d → y ≡ over d from (directoryBytes kind c z)
+  directory-join d x y b k n t q p e f i j h =
+      last _ _ _ _ _ _ _ q (first _ _ _ _ (512 * b + 4 * n) p h (ap (λ (o : ℕ). 512 * b + o) (entries-long _ n)))
+      ∙ rw (e, f, i, j, directory-is)

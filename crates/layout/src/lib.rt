@@ -1,43 +1,67 @@
-// Where the parts of a collapsed image of a capacity and grain size stand, and one grain of it written.
+// Where the parts of an image that is written stand, by its kind, capacity and grain size, and one grain of it written.
 ghost use mathlib.Core.Path.{_≡_};
 ghost use Prim.Native.Nat.{_≤_, _*_, _-_, _<_, min};
-ghost use Rattle.format.specs.Layout.{tableCount, tablesAt, tablesEnd, sectorV};
+ghost use Rattle.format.specs.Layout.{headSectors, sectorsPerTable, tableCount, tablesAt, tablesEnd, sectorV};
 ghost use Rattle.format.specs.Judged.{Sized};
 ghost use lib.ListN.{length};
 ghost use Rattle.base.specs.Bytes.{over};
 ghost use Rattle.format.specs.Grains.{clip};
+use format::Kind;
 use sizes::directory_entries;
 use sizes::directory_sectors;
 
-pub fn tables_of(capacity: u64, size: u64) -> u64
-    requires { ⌜ Sized capacity size ⌝ }
-    ensures { λ r. ⌜ (r ≡ tableCount capacity size) × (r ≤ 0x80000000) ⌝ }
+// The directory's sector.
+pub fn head_sectors(kind: Kind) -> u64
+    ensures { λ r. ⌜ (r ≡ headSectors kind) × (r ≤ 4) ⌝ }
 {
-    directory_entries(capacity, 512, size)
+    match kind {
+        Kind::Kdmv => 1,
+        Kind::Cowd => 4,
+    }
+}
+
+pub fn sectors_per_table(kind: Kind) -> u64
+    ensures { λ r. ⌜ (r ≡ sectorsPerTable kind) × (1 ≤ r) × (r ≤ 32) ⌝ }
+{
+    match kind {
+        Kind::Kdmv => 4,
+        Kind::Cowd => 32,
+    }
+}
+
+pub fn tables_of(kind: Kind, capacity: u64, size: u64) -> u64
+    requires { ⌜ Sized capacity size ⌝ }
+    ensures { λ r. ⌜ (r ≡ tableCount kind capacity size) × (r ≤ 0x80000000) ⌝ }
+{
+    directory_entries(capacity, 128 * sectors_per_table(kind), size)
 }
 
 // The sector of the first table.
-pub fn tables_at(capacity: u64, size: u64) -> u64
+pub fn tables_at(kind: Kind, capacity: u64, size: u64) -> u64
     requires { ⌜ Sized capacity size ⌝ }
-    ensures { λ r. ⌜ (r ≡ tablesAt capacity size) × (r ≤ 0x100000000) ⌝ }
+    ensures { λ r. ⌜ (r ≡ tablesAt kind capacity size) × (r ≤ 0x100000000) ⌝ }
 {
-    1 + directory_sectors(tables_of(capacity, size))
+    head_sectors(kind) + directory_sectors(tables_of(kind, capacity, size))
 }
 
 // The sector after the tables.
-pub fn tables_end(capacity: u64, size: u64) -> u64
+pub fn tables_end(kind: Kind, capacity: u64, size: u64) -> u64
     requires { ⌜ Sized capacity size ⌝ }
-    ensures { λ r. ⌜ (r ≡ tablesEnd capacity size) × (r ≤ 0x400000000) ⌝ }
+    ensures { λ r. ⌜ (r ≡ tablesEnd kind capacity size) × (r ≤ 0x2000000000) ⌝ }
 {
-    tables_at(capacity, size) + 4 * tables_of(capacity, size)
+    tables_at(kind, capacity, size) + sectors_per_table(kind) * tables_of(kind, capacity, size)
 }
 
 // V, the sector of the first grain.
-pub fn sector_v(capacity: u64, size: u64) -> u64
+pub fn sector_v(kind: Kind, capacity: u64, size: u64) -> u64
     requires { ⌜ Sized capacity size ⌝ }
-    ensures { λ r. ⌜ (r ≡ sectorV capacity size) × (r ≤ 0x400000800) ⌝ }
+    ensures { λ r. ⌜ (r ≡ sectorV kind capacity size) × (r ≤ 0x2000000800) ⌝ }
 {
-    base::ceil_div(tables_end(capacity, size), size) * size
+    let end = tables_end(kind, capacity, size);
+    match kind {
+        Kind::Kdmv => base::ceil_div(end, size) * size,
+        Kind::Cowd => end,
+    }
 }
 
 // The bytes of grain g that lie below capacity.

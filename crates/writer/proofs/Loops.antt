@@ -10,10 +10,11 @@ use Rattle.format.specs.Geometry.{grains}
 use Rattle.format.specs.Header.{grainsOf}
 use Rattle.format.specs.Entries.{grainEntry}
 use Rattle.format.specs.Grains.{Grain, Map, storedBelow}
-use Rattle.format.specs.Layout.{tablesAt, sectorV, layoutLength}
+use Rattle.format.specs.Layout.{sectorV, sectorsLaid}
+use Rattle.format.specs.declared.Kind.{Kind}
 use Rattle.format.specs.declared.Header.{Header}
 use Rattle.format.specs.Judged.{Sized}
-use Rattle.layout.proofs.GrainsDone.{Done, entry-room, done-room, done-more}
+use Rattle.layout.proofs.GrainsDone.{Room, Done, entry-room, done-room, done-more}
 use Rattle.layers.specs.declared.GrainSource.{GrainSource}
 use Rattle.layers.specs.TwoLayers.{sourceFrom, grainAt, layered, lengthOf, Layers, Standing}
 use Rattle.writer.specs.Put.{Ready, Put}
@@ -31,11 +32,11 @@ module _ (c z : ℕ) (s : Sized c z) where
   unfolding grains
   grain-starts g h = below-ceil c z (s .low) g h
 
--- the length, as the code computes it
-pub length-is : (c z v n : ℕ) (m : Map) → v ≡ sectorV c z → n ≡ storedBelow m (grains c z)
-    → 512 * (v + n * z) ≡ layoutLength c z m
-unfolding layoutLength
-length-is c z v n m e q = rw (e, q)
+-- the sectors, as the code counts them
+pub sectors-are : (kind : Kind) (c z v n : ℕ) (m : Map) → v ≡ sectorV kind c z → n ≡ storedBelow m (grains c z)
+    → v + n * z ≡ sectorsLaid kind c z m
+unfolding sectorsLaid
+sectors-are kind c z v n m e q = rw (e, q)
 
 module _ (lower : List ℕ) (h : Header) (upper : List ℕ) (k : Header) (l : Layers lower h upper k) where
   module _ (g : ℕ) (used : g < grainsOf h) (source : GrainSource)
@@ -46,25 +47,22 @@ module _ (lower : List ℕ) (h : Header) (upper : List ℕ) (k : Header) (l : La
     grain-is : x ≡ layered lower h upper k g
     grain-is = rw q (source-grain lower h upper k l g)
 
-    module _ (d xs : List ℕ) (next : ℕ) (w : Done (h .capacity) (h .«grain_size») (layered lower h upper k) d g xs next)
-        (room : lengthOf lower h upper k ≤ length d) where
-      pub grain-ready : (t : ℕ) → t ≡ tablesAt (h .capacity) (h .«grain_size»)
-          → Ready x (h .capacity) (h .«grain_size») g (512 * t + 4 * g) next (length xs)
+    module _ (d xs : List ℕ) (at v next all : ℕ) (w : Done at v (h .«grain_size») (layered lower h upper k) d g xs next)
+        (room : Room at v (h .«grain_size») (layered lower h upper k) all (length d)) (few : g < all) where
+      pub grain-ready : Ready x (h .capacity) (h .«grain_size») g (at + 4 * g) next (length xs)
           × Standing lower upper (h .«grain_size») source
-      grain-ready t e =
+      grain-ready =
           let s = l .below .sound .sizes in
           let m = layered lower h upper k in
-          let ready : Ready (m g) (h .capacity) (h .«grain_size») g (512 * t + 4 * g) next (length xs) = record {
+          let ready : Ready (m g) (h .capacity) (h .«grain_size») g (at + 4 * g) next (length xs) = record {
             sizes = s;
             starts = grain-starts _ _ s g used;
-            entry = rw e (entry-room _ _ m d g xs next w (s .low) used room);
-            bytes = done-room _ _ m d g xs next w used room;
+            entry = entry-room _ _ _ m d g xs next w all room few;
+            bytes = done-room _ _ _ m d g xs next w all room few;
           } in
           (rw grain-is ready, rw q (standing lower h upper k l g used))
 
-      pub grain-done : (t r : ℕ) (ys : List ℕ) → t ≡ tablesAt (h .capacity) (h .«grain_size»)
-          → Put x (h .«grain_size») (512 * t + 4 * g) next r xs ys
-          → Done (h .capacity) (h .«grain_size») (layered lower h upper k) d (g + 1) ys r
-      grain-done t r ys e p =
-          done-more _ _ _ d g xs next w (full lower h upper k l) (l .below .sound .sizes .low) used room x grain-is ys r
-          (rw e at (p .bytes)) (p .sector)
+      pub grain-done : (r : ℕ) (ys : List ℕ) → Put x (h .«grain_size») (at + 4 * g) next r xs ys
+          → Done at v (h .«grain_size») (layered lower h upper k) d (g + 1) ys r
+      grain-done r ys p =
+          done-more _ _ _ _ d g xs next w all room few (full lower h upper k l) x grain-is ys r (p .bytes) (p .sector)

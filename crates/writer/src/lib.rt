@@ -1,4 +1,4 @@
-// The collapsed image of two layers, written grain by grain.
+// The image of two layers, of either kind, written grain by grain.
 ghost use mathlib.Core.Path.{_≡_};
 ghost use Prim.Native.Nat.{_+_, _*_, _≤_};
 ghost use lib.ListN.{length, drop};
@@ -6,10 +6,12 @@ ghost use Rattle.base.specs.Bytes.{over};
 ghost use Rattle.format.specs.Grains.{clip};
 ghost use Rattle.format.specs.Grains.Grain.{stored};
 ghost use Rattle.format.specs.Header.{grainsOf};
+ghost use Rattle.format.specs.Layout.{tablesAt, sectorV};
 ghost use Rattle.layout.specs.WrittenParts.{withGrains};
-ghost use Rattle.layers.specs.TwoLayers.{grainAt, layered, imageOf, lengthOf, Layers, Standing};
+ghost use Rattle.layers.specs.TwoLayers.{grainAt, layered, imageOf, sectorsOf, lengthOf, Layers, Standing};
 ghost use Rattle.writer.specs.Put.{Ready, Put};
 use format::Header;
+use format::Kind;
 use layers::GrainSource;
 use layers::count_stored;
 use layers::source_of;
@@ -17,13 +19,13 @@ use layout::sector_v;
 use layout::tables_at;
 use sizes::grains_of;
 
-// The result's length in bytes.
-pub fn image_length(lower: &[u8], h: Header, upper: &[u8], k: Header) -> u64
+// The result's length in sectors.
+pub fn image_sectors(kind: Kind, lower: &[u8], h: Header, upper: &[u8], k: Header) -> u64
     requires { ⌜ Layers (now lower) h (now upper) k ⌝ }
-    ensures { λ r. ⌜ r ≡ lengthOf (now (lower .entry)) h (now (upper .entry)) k ⌝ }
+    ensures { λ r. ⌜ (r ≡ sectorsOf kind (now (lower .entry)) h (now (upper .entry)) k) × (r ≤ 0x4000000000) ⌝ }
 {
     let stored = count_stored(lower, h, upper, k);
-    512 * (sector_v(h.capacity, h.grain_size) + stored * h.grain_size)
+    sector_v(kind, h.capacity, h.grain_size) + stored * h.grain_size
 }
 
 // Grain g, which stands at sector e of its layer. The output is lent from the grain's place on.
@@ -84,15 +86,16 @@ fn put_grain(
 }
 
 // Entries and bytes, grain by grain.
-fn write_grains(out: &mut [u8], lower: &[u8], h: Header, upper: &[u8], k: Header)
-    requires { ⌜ Layers (now lower) h (now upper) k × (lengthOf (now lower) h (now upper) k ≤ length (now out)) ⌝ }
+fn write_grains(out: &mut [u8], kind: Kind, lower: &[u8], h: Header, upper: &[u8], k: Header)
+    requires { ⌜ Layers (now lower) h (now upper) k × (lengthOf kind (now lower) h (now upper) k ≤ length (now out)) ⌝ }
     ensures { λ _.
-        ⌜ now (out .exit) ≡ withGrains (h .capacity) (h .«grain_size») (layered (now (lower .entry)) h (now (upper .entry)) k)
-        (grainsOf h) (now (out .entry)) ⌝ }
+        ⌜ now (out .exit) ≡ withGrains (512 * tablesAt kind (h .capacity) (h .«grain_size»))
+        (sectorV kind (h .capacity) (h .«grain_size»)) (h .«grain_size»)
+        (layered (now (lower .entry)) h (now (upper .entry)) k) (grainsOf h) (now (out .entry)) ⌝ }
 {
     let all = grains_of(h.capacity, h.grain_size);
-    let table = 512 * tables_at(h.capacity, h.grain_size);
-    let mut next = sector_v(h.capacity, h.grain_size);
+    let table = 512 * tables_at(kind, h.capacity, h.grain_size);
+    let mut next = sector_v(kind, h.capacity, h.grain_size);
     let mut g: u64 = 0;
     while g < all {
         let source = source_of(lower, h, upper, k, g);
@@ -111,11 +114,21 @@ fn write_grains(out: &mut [u8], lower: &[u8], h: Header, upper: &[u8], k: Header
     }
 }
 
-// The whole image, over the front of the output.
-pub fn write_image(out: &mut [u8], lower: &[u8], h: Header, upper: &[u8], k: Header)
-    requires { ⌜ Layers (now lower) h (now upper) k × (lengthOf (now lower) h (now upper) k ≤ length (now out)) ⌝ }
-    ensures { λ _. ⌜ now (out .exit) ≡ over (now (out .entry)) 0 (imageOf (now (lower .entry)) h (now (upper .entry)) k) ⌝ }
+// The whole image, of so many sectors, over the front of the output.
+pub fn write_image(
+    out: &mut [u8],
+    kind: Kind,
+    sectors: u64,
+    lower: &[u8],
+    h: Header,
+    upper: &[u8],
+    k: Header,
+)
+    requires { ⌜ Layers (now lower) h (now upper) k × (lengthOf kind (now lower) h (now upper) k ≤ length (now out)) ⌝ }
+    requires { ⌜ sectors ≡ sectorsOf kind (now lower) h (now upper) k ⌝ }
+    ensures { λ _.
+        ⌜ now (out .exit) ≡ over (now (out .entry)) 0 (imageOf kind (now (lower .entry)) h (now (upper .entry)) k) ⌝ }
 {
-    front::write_front(&mut *out, h.capacity, h.grain_size);
-    write_grains(&mut *out, lower, h, upper, k);
+    front::write_front(&mut *out, kind, h.capacity, h.grain_size, sectors);
+    write_grains(&mut *out, kind, lower, h, upper, k);
 }

@@ -8,12 +8,12 @@ pub write-front-spec : {M : Type 1} → statement M
 write-front-spec =
     tie.close
     (tie.spec
-    (λ c κs. let s = c .before .before .pre in (s .0, front-fits _ _ (s .0 .low) _ (s .1) .0))
-    (λ c κs. let s = c .before .before .before .before .before .before .pre in let room = front-fits _ _ (s .0 .low) _ (s .1)
+    (λ c κs. let s = c .before .before .pre in (s .0, front-fits _ _ _ (s .0 .low) _ (s .1) .0))
+    (λ c κs. let s = c .before .before .before .before .before .before .pre in let room = front-fits _ _ _ (s .0 .low) _ (s .1)
     in (s .0, omega arith))
     (λ c κs.
     let s = c .before .before .before .before .before .before .before .before .before .before .pre in
-    let room = front-fits _ _ (s .0 .low) _ (s .1) in (s .0, omega arith))
+    let room = front-fits _ _ _ (s .0 .low) _ (s .1) in (s .0, omega arith))
     (λ write-gap-requires κs. search needs)
     (λ same-length. search needs)
     (λ c.

@@ -14,15 +14,15 @@ write-gap-spec =
     (λ mul-end. search needs)
     (λ c.
     let v = c .before in
-    let fits = gap-follows _ _ (v .before .before .before .pre .0 .low) _ _ (v .before .tables-end .ensures .0)
+    let fits = gap-follows _ _ _ (v .before .before .before .pre .0 .low) _ _ (v .before .tables-end .ensures .0)
     (v .sector-v .ensures .0) in
     omega arith)
     (λ c κs.
     let v = c .before in
-    let fits = gap-follows _ _ (v .before .before .before .pre .0 .low) _ _ (v .before .tables-end .ensures .0)
+    let fits = gap-follows _ _ _ (v .before .before .before .pre .0 .low) _ _ (v .before .tables-end .ensures .0)
     (v .sector-v .ensures .0) in
     omega arith)
     (λ same-length. search needs)
     (λ c.
     let v = c .before .before .before .before in
-    gap-put _ _ _ _ _ _ (c .before .before .fill .ensures) (v .before .tables-end .ensures .0) (v .sector-v .ensures .0)))
+    gap-put _ _ _ _ _ _ _ (c .before .before .fill .ensures) (v .before .tables-end .ensures .0) (v .sector-v .ensures .0)))

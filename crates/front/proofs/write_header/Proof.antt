@@ -1,4 +1,5 @@
-use Rattle.front.proofs.HeaderWritten.{header-join}
+use native.Mathlib.Omega.{arith}
+use Rattle.front.proofs.HeaderWritten.{kdmv-as, cowd-as, room-as}
 use borrow.Author.Needs.{needs}
 use Rattle.front.proofs.write_header.Statement.{statement}
 use Rattle.front.proofs.write_header.Tie as tie
@@ -7,11 +8,21 @@ pub write-header-spec : {M : Type 1} → statement M
 write-header-spec =
     tie.close
     (tie.spec
-    (λ put-front-requires κs. search needs)
-    (λ sector-v-requires κs. search needs)
-    (λ put-back-requires κs. search needs)
+    (λ enum-told. search needs)
+    (λ c κs.
+    let e = c .before in
+    let s = e .before .before .before .pre in
+    let room = room-as _ _ _ (e .enum-told .given .1) (s .1) in (s .0, omega arith))
+    (λ enum-told-2. search needs)
+    (λ c κs.
+    let e = c .before in
+    let s = e .before .before .before .pre in
+    let room = room-as _ _ _ (e .enum-told2 .given .1) (s .1) in (s .0, omega arith))
     (λ same-length. search needs)
     (λ c.
-    let v = c .before .before .before in
-    header-join _ _ _ _ _ _ (c .before .before .put-back .ensures) (v .before .before .before .before .put-front .ensures)
-    (v .sector-v .ensures .0)))
+    let w = c .before .before in
+    kdmv-as _ _ _ _ _ _ (w .before .before .enum-told .given .1) (w .write-kdmv .ensures))
+    (λ same-length-2. search needs)
+    (λ c.
+    let w = c .before .before in
+    cowd-as _ _ _ _ _ _ (w .before .before .enum-told2 .given .1) (w .write-cowd .ensures)))

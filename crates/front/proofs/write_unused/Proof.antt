@@ -18,18 +18,18 @@ write-unused-spec =
     (λ c.
     let e = c .before in
     let s = e .before .before .before .before in
-    let fits = unused-fits _ _ (s .pre .0 .low) _ _ _ (e .before .before .tables-at .ensures .0)
+    let fits = unused-fits _ _ _ (s .pre .0 .low) _ _ _ (e .before .before .tables-at .ensures .0)
     (e .before .grains-of .ensures .0) (e .tables-end .ensures .0) in
     omega arith)
     (λ c κs.
     let e = c .before in
     let s = e .before .before .before .before in
-    let fits = unused-fits _ _ (s .pre .0 .low) _ _ _ (e .before .before .tables-at .ensures .0)
+    let fits = unused-fits _ _ _ (s .pre .0 .low) _ _ _ (e .before .before .tables-at .ensures .0)
     (e .before .grains-of .ensures .0) (e .tables-end .ensures .0) in
     omega arith)
     (λ same-length. search needs)
     (λ c.
     let e = c .before .before .before .before in
     let s = e .before .before .before .before in
-    unused-put _ _ (s .pre .0 .low) _ _ _ _ _ (c .before .before .fill .ensures) (e .before .before .tables-at .ensures .0)
+    unused-put _ _ _ (s .pre .0 .low) _ _ _ _ _ (c .before .before .fill .ensures) (e .before .before .tables-at .ensures .0)
     (e .before .grains-of .ensures .0) (e .tables-end .ensures .0)))

@@ -8,5 +8,7 @@ unfolding tableCount
 tables-of-spec =
     tie.close
     (tie.spec
+    (λ sectors-per-table-requires κs. search needs)
+    (λ mul-directory-entries. search needs)
     (λ directory-entries-requires κs. search needs)
-    (λ returns. search needs))
+    (λ c. (rw (← c .before .sectors-per-table .ensures .0) (c .directory-entries .ensures .0), search needs)))

@@ -1,0 +1,13 @@
+use borrow.Author.Needs.{needs}
+use Rattle.moves.proofs.not_taken.Statement.{statement}
+use Rattle.moves.proofs.not_taken.Tie as tie
+
+
+pub not-taken-spec : {M : Type 1} → statement M
+not-taken-spec =
+    tie.close
+    (tie.spec
+    (λ enum-told. search needs)
+    (λ enum-told-2. search needs)
+    (λ returns. ?)
+    (λ returns-2. ?))
