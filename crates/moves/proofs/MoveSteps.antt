@@ -8,9 +8,11 @@ use borrow.Author.Tests.{lt-ltb, le-ltb}
 use Rattle.base.specs.Pick.{pick}
 use Rattle.base.proofs.Steps.{or-no}
 use Rattle.format.specs.Header.{headerOf}
+use Rattle.format.specs.Entries.{grainEntry}
 use Rattle.format.specs.Grains.{grainMap}
 use Rattle.format.specs.Collapse.{mapOf, stillOpen, writtenIfRoom}
-use Rattle.format.specs.Moves.{laidAs, laidLengthAs, formAs, isKind, notTaken, zeroLost, saysZero, notMovable, moveFrom}
+use Rattle.format.specs.Moves.{laidAs, laidLengthAs, formAs, isKind, notTaken, saysZero, zeroGrain, zeroLost, notMovable}
+use Rattle.format.specs.Moves.{moveFrom}
 use Rattle.format.specs.declared.Kind.{Kind}
 use Rattle.format.specs.declared.Header.{Header}
 use Rattle.format.specs.declared.Entry.{Entry}
@@ -33,6 +35,10 @@ zero-as z a v e p = rw e p
 pub lost-as : (z : Bool) (kind other : Kind) (s : List ℕ) (h : Header) → kind ≡ other → z ≡ zeroLost other s h
     → z ≡ zeroLost kind s h
 lost-as z kind other s h e p = rw e p
+
+pub zero-here : (z : Bool) (a : Entry) (s : List ℕ) (h : Header) (g : ℕ) → a ≡ grainEntry s h g → z ≡ saysZero a
+    → z ≡ zeroGrain s h g
+zero-here z a s h g e p = rw (← e) p
 
 -- ---- 44
 module _ (kind : Kind) (s : List ℕ) (h : Header) where
