@@ -7,15 +7,16 @@ use lib.ListN.{length}
 use Rattle.base.specs.Numbers.{leBytes}
 use Rattle.base.specs.Bytes.{zeros}
 use Rattle.base.specs.Rows.{rows}
-use Rattle.base.proofs.Rounding.{ceil-covers}
+use Rattle.base.proofs.Rounding.{ceil-covers, ceil-under}
 use Rattle.base.proofs.Over.{zeros-length}
 use Rattle.base.proofs.Rows.{entries-length}
-use Rattle.format.specs.Geometry.{directorySectors}
+use Rattle.format.specs.Geometry.{grains, directorySectors}
 use Rattle.format.specs.Grains.{Map, oneIfStored, storedBelow}
 use Rattle.format.specs.Layout.{headSectors, sectorsPerTable, tableCount, tablesEnd, sectorV, sectorOf, headerBytes}
 use Rattle.format.specs.Layout.{directoryBytes, tableBytes, gapBytes}
 use Rattle.format.specs.declared.Kind.{Kind}
 use Rattle.format.specs.declared.Kind.the-variants.{Kdmv, Cowd}
+use Rattle.format.proofs.Geometry.{entries-enough}
 
 -- ---- of either kind
 -- header and tables have sectors, and few
@@ -40,7 +41,20 @@ unfolding sectorV
 grains-late Kdmv c size some = ceil-covers (tablesEnd Kdmv c size) size some
 grains-late Cowd c size some = omega arith
 
+-- and soon after them
+pub grains-soon : (kind : Kind) (c size : ℕ) → 1 ≤ size → sectorV kind c size ≤ tablesEnd kind c size + size
+unfolding sectorV
+grains-soon Kdmv c size some = omega (arith, ceil-under (tablesEnd Kdmv c size) size some)
+grains-soon Cowd c size some = omega arith
+
 module _ (kind : Kind) (c size : ℕ) where
+  -- the tables have an entry for each grain
+  pub entries-fit : 1 ≤ size → grains c size ≤ 128 * (sectorsPerTable kind * tableCount kind c size)
+  unfolding tableCount
+  entries-fit some =
+      let f = few kind in
+      omega (arith, entries-enough c size some (128 * sectorsPerTable kind) (omega arith))
+
   pub directory-length : length (directoryBytes kind c size) ≡ 512 * directorySectors (tableCount kind c size)
   unfolding directoryBytes
   directory-length = entries-length _ _ ∙ omega arith

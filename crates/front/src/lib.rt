@@ -73,7 +73,13 @@ fn write_cowd(out: &mut [u8], capacity: u64, size: u64, sectors: u64)
     requires { ⌜ Sized capacity size × (2048 ≤ length (now out)) ⌝ }
     ensures { λ _. ⌜ now (out .exit) ≡ over (now (out .entry)) 0 (headerBytes Cowd capacity size sectors) ⌝ }
 {
-    put_cowd(&mut *out, capacity, size, tables_of(Kind::Cowd, capacity, size), sectors);
+    put_cowd(
+        &mut *out,
+        capacity,
+        size,
+        tables_of(Kind::Cowd, capacity, size),
+        sectors,
+    );
     base::fill(&mut *out, 32, 2016);
 }
 

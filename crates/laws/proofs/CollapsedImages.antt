@@ -7,6 +7,7 @@ use Rattle.format.specs.Geometry.{grains}
 use Rattle.format.specs.Grains.{merge, allAbsent}
 use Rattle.format.specs.Layout.{Fits, layoutOf, layoutLength}
 use Rattle.format.specs.Collapse.{mapOf, normalForm, collapsed}
+use Rattle.format.specs.declared.Kind.the-variants.{Kdmv}
 use Rattle.format.proofs.Grains.{onto-self, onto-whole}
 use Rattle.laws.specs.Layers.{Layer, SameGrains}
 use Rattle.laws.proofs.LayoutNumbers.{Sizes}
@@ -28,14 +29,14 @@ module _ {c size : ℕ} where
 
     -- each of its grains is the image's
     pub normal-map : (g : ℕ) → g < grains c size → mapOf (normalForm s) g ≡ mapOf s g
-    normal-map = rw normal-is (map-read (layer-sizes p) (mapOf s) (map-fits p))
+    normal-map = rw normal-is (λ g h. map-read Kdmv (layer-sizes p) (mapOf s) (map-fits p) g h tt)
 
     pub normal-length : length (normalForm s) ≡ layoutLength c size (mapOf s)
-    normal-length = rw normal-is (layout-length (layer-sizes p) (mapOf s) (map-fits p))
+    normal-length = rw normal-is (layout-length Kdmv (layer-sizes p) (mapOf s) (map-fits p))
 
   -- the normal form of a normal form is itself
   pub normal-normal : {s : List ℕ} → Layer c size s → normalForm (normalForm s) ≡ normalForm s
-  normal-normal p = normal-is (normal-accepted p) ∙ layout-same c size _ _ (normal-map p) ∙ sym (normal-is p)
+  normal-normal p = normal-is (normal-accepted p) ∙ layout-same Kdmv c size _ _ (normal-map p) ∙ sym (normal-is p)
 
   -- ---- collapse
   module _ {lower upper : List ℕ} (p : Layer c size lower) (q : Layer c size upper) where
@@ -51,31 +52,31 @@ module _ {c size : ℕ} where
 
     -- a grain is the upper's unless absent there, else the lower's
     pub collapsed-map : (g : ℕ) → g < grains c size → mapOf (collapsed lower upper) g ≡ merge (mapOf lower) (mapOf upper) g
-    collapsed-map = rw collapsed-is (map-read (layer-sizes p) _ collapsed-fits)
+    collapsed-map = rw collapsed-is (λ g h. map-read Kdmv (layer-sizes p) _ collapsed-fits g h tt)
 
     pub collapsed-length : length (collapsed lower upper) ≡ layoutLength c size (merge (mapOf lower) (mapOf upper))
-    collapsed-length = rw collapsed-is (layout-length (layer-sizes p) _ collapsed-fits)
+    collapsed-length = rw collapsed-is (layout-length Kdmv (layer-sizes p) _ collapsed-fits)
 
   -- it is in normal form
   pub collapsed-normal : {lower upper : List ℕ} → Layer c size lower → Layer c size upper
       → normalForm (collapsed lower upper) ≡ collapsed lower upper
   collapsed-normal p q =
-      normal-is (collapsed-accepted p q) ∙ layout-same c size _ _ (collapsed-map p q) ∙ sym (collapsed-is p q)
+      normal-is (collapsed-accepted p q) ∙ layout-same Kdmv c size _ _ (collapsed-map p q) ∙ sym (collapsed-is p q)
 
   -- an image over itself is its normal form
   pub collapsed-self : {s : List ℕ} → Layer c size s → collapsed s s ≡ normalForm s
-  collapsed-self {s} p = collapsed-is p p ∙ layout-same c size _ _ (λ g h. onto-self (mapOf s g)) ∙ sym (normal-is p)
+  collapsed-self {s} p = collapsed-is p p ∙ layout-same Kdmv c size _ _ (λ g h. onto-self (mapOf s g)) ∙ sym (normal-is p)
 
   -- so it is with an image whose grains are all absent, on either side
   module _ {s blank : List ℕ} (p : Layer c size s) (q : Layer c size blank) (none : SameGrains c size (mapOf blank) allAbsent)
     where
       pub collapsed-absent-below : collapsed blank s ≡ normalForm s
       collapsed-absent-below =
-          collapsed-is q p ∙ layout-same c size _ _ (λ g h. rw (none g h) (onto-nothing (mapOf s g))) ∙ sym (normal-is p)
+          collapsed-is q p ∙ layout-same Kdmv c size _ _ (λ g h. rw (none g h) (onto-nothing (mapOf s g))) ∙ sym (normal-is p)
 
       pub collapsed-absent-above : collapsed s blank ≡ normalForm s
       collapsed-absent-above =
-          collapsed-is p q ∙ layout-same c size _ _ (λ g h. rw (none g h) (nothing-onto (mapOf s g))) ∙ sym (normal-is p)
+          collapsed-is p q ∙ layout-same Kdmv c size _ _ (λ g h. rw (none g h) (nothing-onto (mapOf s g))) ∙ sym (normal-is p)
 
   -- and there is one, of all sizes that an image can have
   module _ (z : Sizes c size) where
@@ -83,4 +84,4 @@ module _ {c size : ℕ} where
     blank-accepted = layout-layer z allAbsent (λ g h. tt)
 
     pub blank-map : SameGrains c size (mapOf (layoutOf c size allAbsent)) allAbsent
-    blank-map = map-read z allAbsent (λ g h. tt)
+    blank-map g h = map-read Kdmv z allAbsent (λ i b. tt) g h tt

@@ -12,7 +12,9 @@ use Rattle.base.proofs.Steps.{lt-or-ge}
 use Rattle.base.proofs.Rows.{rows-same}
 use Rattle.format.specs.Geometry.{grains}
 use Rattle.format.specs.Grains.{Grain, absent, zeroed, stored, Map, upperUnlessAbsent, merge, allAbsent, bytesOf}
-use Rattle.format.specs.Layout.{sectorOf, tableEntry, headerBytes, directoryBytes, tableBytes, gapBytes, grainBytes, layoutOf}
+use Rattle.format.specs.Layout.{sectorOf, sectorsLaid, tableEntry, headerBytes, directoryBytes, tableBytes, gapBytes}
+use Rattle.format.specs.Layout.{grainBytes, layoutAs}
+use Rattle.format.specs.declared.Kind.{Kind}
 use Rattle.format.proofs.Grains.{stored-same}
 use Rattle.laws.specs.Layers.{SameGrains}
 
@@ -40,14 +42,14 @@ pub merge-nothing : (a : Map) → merge allAbsent a ≡ a
 merge-nothing a = fun-ext (λ g. onto-nothing (a g))
 
 -- ---- maps that agree on the grains that there are have one layout
-module _ (c size : ℕ) (m k : Map) (e : SameGrains c size m k) where
-  entry-same : (g : ℕ) → tableEntry c size m g ≡ tableEntry c size k g
+module _ (kind : Kind) (c size : ℕ) (m k : Map) (e : SameGrains c size m k) where
+  entry-same : (g : ℕ) → tableEntry kind c size m g ≡ tableEntry kind c size k g
   unfolding pick sectorOf
   entry-same g =
       ⊎-elim (λ h. rw (lt-ltb g (grains c size) h, e g h, stored-same m k g (λ i b. e i (omega arith))))
       (λ h. rw (le-ltb g (grains c size) h)) (lt-or-ge g (grains c size))
 
-  tables-same : tableBytes c size m ≡ tableBytes c size k
+  tables-same : tableBytes kind c size m ≡ tableBytes kind c size k
   unfolding tableBytes
   tables-same = rows-same _ _ _ (λ g b. ap (leBytes 4) (entry-same g))
 
@@ -55,6 +57,16 @@ module _ (c size : ℕ) (m k : Map) (e : SameGrains c size m k) where
   unfolding grainBytes
   grains-same = rows-same _ _ _ (λ g b. ap bytesOf (e g b))
 
-  pub layout-same : layoutOf c size m ≡ layoutOf c size k
-  unfolding layoutOf
-  layout-same = λ i. allOf (headerBytes c size ∷ directoryBytes c size ∷ tables-same i ∷ gapBytes c size ∷ grains-same i ∷ [])
+  sectors-same : sectorsLaid kind c size m ≡ sectorsLaid kind c size k
+  unfolding sectorsLaid
+  sectors-same = rw (stored-same m k (grains c size) e)
+
+  pub layout-same : layoutAs kind c size m ≡ layoutAs kind c size k
+  unfolding layoutAs
+  layout-same = λ i. allOf
+      (headerBytes kind c size (sectors-same i)
+      ∷ directoryBytes kind c size
+      ∷ tables-same i
+      ∷ gapBytes kind c size
+      ∷ grains-same i
+      ∷ [])

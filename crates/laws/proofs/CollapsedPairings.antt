@@ -7,6 +7,7 @@ use lib.ListN.{length, getD, length-append}
 use Rattle.format.specs.Grains.{merge}
 use Rattle.format.specs.Layout.{layoutOf}
 use Rattle.format.specs.Collapse.{mapOf}
+use Rattle.format.specs.declared.Kind.the-variants.{Kdmv}
 use Rattle.laws.specs.Layers.{Layer, SameGrains, Every, none, more, mapOfLayers, Pairing, layer, pair, layersOf}
 use Rattle.laws.specs.Layers.{pairedImage}
 use Rattle.laws.proofs.CollapsedMaps.{nothing-onto, merge-assoc, merge-nothing, layout-same}
@@ -63,7 +64,7 @@ module _ {c size : ℕ} where
       let p = front (layersOf a) _ e in
       let q = back (layersOf a) _ e in
       collapsed-is (pairing-accepted a p) (pairing-accepted b q)
-      ∙ layout-same c size _ _ (λ g h. rw (pairing-map a p g h, pairing-map b q g h, stack-append (layersOf a) (layersOf b)))
+      ∙ layout-same Kdmv c size _ _ (λ g h. rw (pairing-map a p g h, pairing-map b q g h, stack-append (layersOf a) (layersOf b)))
 
   -- so the pairing makes no difference to the bytes
   pub pairings-alike : (t u : Pairing) → Every (Layer c size) (layersOf t) → layersOf t ≡ layersOf u → pairedImage t

@@ -12,6 +12,7 @@ use Rattle.format.specs.Geometry.{fileSectors, bytesAt}
 use Rattle.format.specs.Header.{headerOf}
 use Rattle.format.specs.Entries.{grainSectors}
 use Rattle.format.specs.Areas.{named, runsPast}
+use Rattle.format.specs.Accepted.{Accepted}
 use Rattle.format.specs.Source.{grainSource, entrySource, sourceOf, sectorLookup}
 use Rattle.format.specs.Grains.{Grain, absent, zeroed, stored, upperUnlessAbsent, clip, grainFrom}
 use Rattle.format.specs.Collapse.{mapOf}
@@ -27,8 +28,7 @@ use Rattle.laws.specs.Served.{SameSource, absent as sameAbsent, zero as 
 use Rattle.laws.proofs.ServedLookup.{grain-in}
 use Rattle.laws.proofs.ServedSectors.{accepted-good, served}
 use Rattle.format.proofs.Grains.{clip-length, clip-below}
-use Rattle.laws.proofs.LayoutNumbers.{some-size}
-use Rattle.laws.proofs.CollapsedLayers.{layer-accepted, capacity-is, size-is, unpacked, layer-sizes}
+use Rattle.laws.proofs.CollapsedLayers.{layer-accepted, capacity-is, size-is, unpacked}
 
 -- sector o of a grain
 unfoldable pub sectorIn : ℕ → Grain → Grain
@@ -83,6 +83,18 @@ module _ (s : List ℕ) (c size g o : ℕ) (low : o < size) (below : g * size + 
       tells-stored (sector-bytes e h)
       (part-long (clip c size g (drop (512 * e) s)) (512 * o) 512 (rw clip-length (omega arith)))
 
+-- ---- of an accepted, uncompressed image of either kind: its source tells what the map says
+pub source-tells : (s : List ℕ) → Accepted s → headerOf s .packed ≡ false → (x : ℕ) → x < headerOf s .capacity
+    → Tells s (sourceOf s (headerOf s) x) (sectorIn (x % headerOf s .«grain_size») (mapOf s (x / headerOf s .«grain_size»)))
+source-tells s a plain x low =
+    let good = accepted-good s a in
+    let sound = good .sound in
+    let h = headerOf s in
+    let inside = grain-in s h (sound .sizes .low) (sound .some) (good .areas) x low in
+    rw plain
+    (entry-tells s (h .capacity) (h .«grain_size») (x / h .«grain_size») (x % h .«grain_size») (mod-lt x (sound .sizes .low))
+    (rw div-add-mod' low) _ (rw plain at inside))
+
 -- ---- the lookup finds what the map says
 pub record Looked (s : List ℕ) (x : ℕ) (g : Grain) : Type 0 where
   pub source : Source
@@ -93,15 +105,9 @@ pub looked : {c size : ℕ} {s : List ℕ} → Layer c size s → (x : ℕ) → 
     → Looked s x (sectorIn (x % size) (mapOf s (x / size)))
 looked {c} {size} {s} p x low =
     let a = layer-accepted p in
-    let good = accepted-good s a in
-    let one = some-size (layer-sizes p) in
-    let sound = good .sound in
-    let inside = grain-in s (headerOf s) (sound .sizes .low) (sound .some) (good .areas) x (rw (capacity-is p) low) in
+    let below : x < headerOf s .capacity = rw (capacity-is p) low in
     record {
       source = sourceOf s (headerOf s) x;
-      found = served s a x (rw (capacity-is p) low);
-      tells =
-          rw (unpacked p, size-is p, capacity-is p)
-          (entry-tells s c size (x / size) (x % size) (mod-lt x one) (rw div-add-mod' low) _
-          (rw (unpacked p, size-is p) at inside));
+      found = served s a x below;
+      tells = rw (← size-is p) (source-tells s a (unpacked p) x below);
     }

@@ -14,8 +14,9 @@ use Rattle.base.proofs.Over.{zeros-add}
 use Rattle.format.specs.Geometry.{grains, directoryEntries, directorySectors}
 use Rattle.format.specs.Grains.{Map, upperUnlessAbsent, merge, bytesOf, oneIfStored, storedBelow, entryFor}
 use Rattle.format.specs.Layout.{tableCount, tablesAt, tablesEnd, sectorV, sectorOf, tableEntry, headerBytes, directoryBytes}
-use Rattle.format.specs.Layout.{tableBytes, gapBytes, grainBytes, layoutOf}
+use Rattle.format.specs.Layout.{tableBytes, gapBytes, grainBytes, sectorsLaid, layoutOf, layoutAs}
 use Rattle.format.specs.Collapse.{mapOf, normalForm, collapsed, writtenIfRoom, collapse, output, collapseOutput}
+use Rattle.format.specs.declared.Kind.the-variants.{Kdmv}
 use Rattle.format.specs.declared.Refusal.the-variants.{TooLittleRoom}
 use Rattle.format.specs.declared.CollapseAnswer.the-variants.{Written, Refused}
 use Rattle.format.proofs.Picked.{pick-then, pick-else}
@@ -30,15 +31,15 @@ use Rattle.laws.specs.ExampleLayers.{directorySector, collapsedTable, no
 use Rattle.laws.specs.ExampleLayers.{normalGrains}
 
 -- ---- they are what is written
-header-is : headerBytes 69 8 ≡ headerSector
+header-is : (sectors : ℕ) → headerBytes Kdmv 69 8 sectors ≡ headerSector
 unfolding headerSector leBytes zeros rows directoryEntries directorySectors tableCount tablesAt tablesEnd sectorV headerBytes
-header-is = refl
+header-is sectors = refl
 
-directory-is : directoryBytes 69 8 ≡ directorySector
+directory-is : directoryBytes Kdmv 69 8 ≡ directorySector
 unfolding directorySector pick leBytes zeros rows directoryEntries directorySectors tableCount tablesAt directoryBytes
 directory-is = refl
 
-gap-is : gapBytes 69 8 ≡ gapSectors
+gap-is : gapBytes Kdmv 69 8 ≡ gapSectors
 unfolding gapSectors directoryEntries directorySectors tableCount tablesAt tablesEnd sectorV gapBytes
 gap-is = refl
 
@@ -52,14 +53,14 @@ zeros-follow e used z (suc n) =
     (append-assoc (entryBytes used e) (zeros (4 * n)) (zeros 4) ∙ rw (zeros-add (4 * n) 4, mul-suc))
 
 -- nine entries are in use
-table-is : (m : Map) → tableBytes 69 8 m ≡ entryBytes 9 (tableEntry 69 8 m) ++ zeros 2012
+table-is : (m : Map) → tableBytes Kdmv 69 8 m ≡ entryBytes 9 (tableEntry Kdmv 69 8 m) ++ zeros 2012
 unfolding grains directoryEntries tableCount tableBytes
-table-is m = zeros-follow (tableEntry 69 8 m) 9 (λ k. pick-else _ _ _ (le-ltb (9 + k) 9 (omega arith))) 503
+table-is m = zeros-follow (tableEntry Kdmv 69 8 m) 9 (λ k. pick-else _ _ _ (le-ltb (9 + k) 9 (omega arith))) 503
 
-laid : (m : Map) (table grains : List ℕ) → entryBytes 9 (tableEntry 69 8 m) ++ zeros 2012 ≡ table → grainBytes 69 8 m ≡ grains
-    → layoutOf 69 8 m ≡ image table grains
-unfolding rows layoutOf
-laid m table grains t g = λ i. header-is i ++ directory-is i ++ (table-is m ∙ t) i ++ gap-is i ++ g i
+laid : (m : Map) (table grains : List ℕ) → entryBytes 9 (tableEntry Kdmv 69 8 m) ++ zeros 2012 ≡ table
+    → grainBytes 69 8 m ≡ grains → layoutOf 69 8 m ≡ image table grains
+unfolding rows layoutAs
+laid m table grains t g = λ i. header-is (sectorsLaid Kdmv 69 8 m) i ++ directory-is i ++ (table-is m ∙ t) i ++ gap-is i ++ g i
 
 abbrev merged : Map
 merged = merge (listed lowerGrains) (listed upperGrains)
@@ -68,7 +69,7 @@ pub collapsed-bytes : collapsed lower upper ≡ image collapsedTable collapsedGr
 unfolding collapsedTable collapsedGrains filled cut pick leBytes zeros rows grains directoryEntries directorySectors upperUnlessAbsent bytesOf oneIfStored storedBelow entryFor tableCount tablesAt tablesEnd sectorV sectorOf grainBytes
 collapsed-bytes =
     collapsed-is (layers .0) (layers .1)
-    ∙ layout-same 69 8 _ merged (λ g b. rw (lower-map g b, upper-map g b))
+    ∙ layout-same Kdmv 69 8 _ merged (λ g b. rw (lower-map g b, upper-map g b))
     ∙ laid merged collapsedTable collapsedGrains refl refl
 
 pub normal-bytes : normalForm lower ≡ image normalTable normalGrains
@@ -76,7 +77,7 @@ unfolding normalTable normalGrains filled cut pick leBytes zeros rows grains dir
 normal-bytes =
     sym (collapsed-self (layers .0))
     ∙ collapsed-is (layers .0) (layers .0)
-    ∙ layout-same 69 8 _ (listed lowerGrains) (λ g b. onto-self (mapOf lower g) ∙ lower-map g b)
+    ∙ layout-same Kdmv 69 8 _ (listed lowerGrains) (λ g b. onto-self (mapOf lower g) ∙ lower-map g b)
     ∙ laid (listed lowerGrains) normalTable normalGrains refl refl
 
 -- ---- the call

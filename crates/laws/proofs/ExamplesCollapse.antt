@@ -14,8 +14,9 @@ use Rattle.format.specs.Check.{checkFrom}
 use Rattle.format.specs.Chain.{unlike}
 use Rattle.format.specs.Grains.{Map, absent, zeroed, stored, clip, bytesOf, oneIfStored, storedBelow, entryFor}
 use Rattle.format.specs.Layout.{tableCount, tablesAt, tablesEnd, sectorV, sectorOf, headerBytes, directoryBytes}
-use Rattle.format.specs.Layout.{tableBytes, gapBytes, grainBytes, layoutLength}
+use Rattle.format.specs.Layout.{tableBytes, gapBytes, grainBytes, sectorsLaid}
 use Rattle.format.specs.Collapse.{ifAccepted, writtenIfRoom, normalFrom, normal, collapseFrom, collapse, output}
+use Rattle.format.specs.declared.Kind.the-variants.{Kdmv}
 use Rattle.format.specs.declared.Header.{Header}
 use Rattle.format.specs.declared.Refusal.the-variants.{TooShort, Magic, TooLittleRoom, LayersDiffer, NotCollapsible, StillOpen}
 use Rattle.format.specs.declared.CheckAnswer.the-variants.{Accepted}
@@ -64,28 +65,28 @@ answers =
     ∷ []
 
 pub answers-hold : Hold answers
-unfolding pick zeros sameAt grains directoryEntries directorySectors cowdHeader judge checkFrom unlike oneIfStored storedBelow tableCount tablesAt tablesEnd sectorV layoutLength ifAccepted writtenIfRoom normalFrom collapseFrom
+unfolding pick zeros sameAt grains directoryEntries directorySectors cowdHeader judge checkFrom unlike oneIfStored storedBelow tableCount tablesAt tablesEnd sectorV sectorsLaid ifAccepted writtenIfRoom normalFrom collapseFrom
 answers-hold = refl
 
 -- ---- numbers of the layout
 abbrev numbers : List (Example ℕ)
 numbers =
     -- 512 grains of 8 sectors have one table, 513 have two
-    example (tableCount 4096 8) 1
-    ∷ example (tableCount 4097 8) 2
+    example (tableCount Kdmv 4096 8) 1
+    ∷ example (tableCount Kdmv 4097 8) 2
     -- 128 entries take a sector, 129 two
     ∷ example (directorySectors 128) 1
     ∷ example (directorySectors 129) 2
     ∷ example (grains 16 8) 2
     ∷ example (grains 17 8) 3
     -- the tables from 1 + 1 on, up to 1 + 1 + 2 x 4; V a multiple of the grain size, also where the tables end at one
-    ∷ example (tablesAt 4097 8) 2
-    ∷ example (tablesEnd 4097 8) 10
-    ∷ example (sectorV 4097 8) 16
-    ∷ example (sectorV 4097 16) 16
-    ∷ example (tablesEnd 0x8000000 2048) 514
-    ∷ example (sectorOf 16 8 (grainsOf []) 1) 8
-    ∷ example (sectorOf 16 8 (grainsOf []) 2) 16
+    ∷ example (tablesAt Kdmv 4097 8) 2
+    ∷ example (tablesEnd Kdmv 4097 8) 10
+    ∷ example (sectorV Kdmv 4097 8) 16
+    ∷ example (sectorV Kdmv 4097 16) 16
+    ∷ example (tablesEnd Kdmv 0x8000000 2048) 514
+    ∷ example (sectorOf Kdmv 16 8 (grainsOf []) 1) 8
+    ∷ example (sectorOf Kdmv 16 8 (grainsOf []) 2) 16
     ∷ []
 
 pub numbers-hold : Hold numbers
@@ -96,7 +97,7 @@ numbers-hold = refl
 abbrev bytes : List (Example (List ℕ))
 bytes =
     -- each field as document 01 has it
-    example (headerBytes 16 8)
+    example (headerBytes Kdmv 16 8 0)
     (joined
     ((0x4b ∷ 0x44 ∷ 0x4d ∷ 0x56 ∷ 2 ∷ 0 ∷ 0 ∷ 0 ∷ 5 ∷ 0 ∷ 0 ∷ 0 ∷ [])
     ∷ (16 ∷ 0 ∷ 0 ∷ 0 ∷ 0 ∷ 0 ∷ 0 ∷ 0 ∷ 8 ∷ 0 ∷ 0 ∷ 0 ∷ 0 ∷ 0 ∷ 0 ∷ 0 ∷ [])
@@ -108,10 +109,10 @@ bytes =
     ∷ zeros 435
     ∷ []))
     -- tables at sectors 2 and 6; unused entries are 0
-    ∷ example (directoryBytes 4097 8) (leBytes 4 2 ++ leBytes 4 6 ++ zeros 504)
+    ∷ example (directoryBytes Kdmv 4097 8) (leBytes 4 2 ++ leBytes 4 6 ++ zeros 504)
     -- grain 0 zero, grain 1 at V; unused entries are 0
-    ∷ example (tableBytes 16 8 (grainsOf [])) (leBytes 4 1 ++ leBytes 4 8 ++ zeros 2040)
-    ∷ example (gapBytes 16 8) (zeros 1024)
+    ∷ example (tableBytes Kdmv 16 8 (grainsOf [])) (leBytes 4 1 ++ leBytes 4 8 ++ zeros 2040)
+    ∷ example (gapBytes Kdmv 16 8) (zeros 1024)
     ∷ example (grainBytes 16 8 (grainsOf (7 ∷ 9 ∷ []))) (7 ∷ 9 ∷ [])
     -- capacity 1 ends inside the grain: its first sector counts
     ∷ example (clip 1 2 0 (replicate 1024 7)) (replicate 512 7 ++ zeros 512)

@@ -19,7 +19,7 @@ use Rattle.format.specs.Check.{checkGrains, checkLayout, checkFrom, check}
 use Rattle.format.specs.Source.{grainSource, lookupGrain, lookupEntry, lookupTable, lookupIn, lookupFrom, sectorLookup}
 use Rattle.format.specs.Chain.{unlike}
 use Rattle.format.specs.Grains.{upperUnlessAbsent, grainFrom, oneIfStored, storedBelow}
-use Rattle.format.specs.Layout.{tableCount, tablesAt, tablesEnd, sectorV, layoutLength}
+use Rattle.format.specs.Layout.{tableCount, tablesAt, tablesEnd, sectorV, sectorsLaid}
 use Rattle.format.specs.Collapse.{ifAccepted, writtenIfRoom, normalFrom, normal, collapseFrom, collapse}
 use Rattle.format.specs.declared.Source.the-variants.{Absent, Zero, Stored}
 use Rattle.format.specs.declared.Refusal.the-variants.{Flags, GrainPast, CopiesDiffer, SharedSector}
@@ -127,5 +127,5 @@ pub one-collapsed :
     × (normal (grained 2 5) 8192 ≡ Written 4096)
     × (collapse (grained 2 5) (grained 1 1) 8192 ≡ Written 8192)
     × (collapse (grained 1 1) (grained 2 5) 8192 ≡ Written 4096)
-unfolding pick powerUpTo leAt leBytes sameAt zeros rows grains directoryEntries directorySectors kdmvFields kdmvFault kdmvHeader directoryOf headerOf unlessFault withFooter judgeKdmv judge meaning inTable entryOfGrain grainSectors ifThere named redundantTables areas runsPast shares sharesAny meet misplaced lowestFrom copiesDiffer unlessGrain checkApart checkCopies checkGrains checkLayout checkFrom grainFrom oneIfStored storedBelow tableCount tablesAt tablesEnd sectorV layoutLength ifAccepted writtenIfRoom normalFrom upperUnlessAbsent unlike collapseFrom
+unfolding pick powerUpTo leAt leBytes sameAt zeros rows grains directoryEntries directorySectors kdmvFields kdmvFault kdmvHeader directoryOf headerOf unlessFault withFooter judgeKdmv judge meaning inTable entryOfGrain grainSectors ifThere named redundantTables areas runsPast shares sharesAny meet misplaced lowestFrom copiesDiffer unlessGrain checkApart checkCopies checkGrains checkLayout checkFrom grainFrom oneIfStored storedBelow tableCount tablesAt tablesEnd sectorV sectorsLaid ifAccepted writtenIfRoom normalFrom upperUnlessAbsent unlike collapseFrom
 one-collapsed = (refl, refl, refl, refl)

@@ -1,10 +1,10 @@
--- The header of a layout reads back as written, and keeps every header rule.
-use Prim.Native.Nat.{ℕ, _<_}
-use mathlib.Core.Path.{_≡_, refl, _∙_}
-use mathlib.Core.Bool.{true, false, false≢true}
+-- The header of a layout of either kind reads back as written, and keeps every header rule.
+use Prim.Native.Nat.{ℕ, _+_, _*_, _≤_, _<_}
+use mathlib.Core.Path.{_≡_, refl, sym, _∙_}
+use mathlib.Core.Bool.{Bool, true, false, false≢true}
 use mathlib.Core.List.{List, []}
 use native.Mathlib.Omega.{arith}
-use native.Mathlib.Nat.{zero-add}
+use native.Mathlib.Nat.{zero-add, add-assoc}
 use lib.Dec.{lit<, lit≤}
 use lib.ListN.{length, getD}
 use Rattle.base.specs.Pick.{pick}
@@ -15,17 +15,23 @@ use Rattle.base.specs.Rows.{rows, firstOf}
 use Rattle.base.proofs.Stands.{Stands, stands-in, read-bytes}
 use Rattle.base.proofs.Numbers.{read-number}
 use Rattle.base.proofs.Strings.{read-same}
+use Rattle.base.proofs.Over.{zeros-length, zeros-at}
 use Rattle.base.proofs.Rows.{part-at}
-use Rattle.format.specs.Geometry.{directorySectors}
+use Rattle.format.specs.Geometry.{grains, directorySectors}
 use Rattle.format.specs.Kdmv.{newlineBytes, kdmvFields}
-use Rattle.format.specs.Header.{kdmvHeader, directoryOf, kdmvHeaderOf, headerOf}
-use Rattle.format.specs.Accepted.{KdmvRules}
+use Rattle.format.specs.Cowd.{cowdFields}
+use Rattle.format.specs.Header.{kdmvHeader, cowdHeader, directoryOf, kdmvHeaderOf, cowdHeaderOf, headerOf}
+use Rattle.format.specs.Accepted.{KdmvRules, CowdRules}
 use Rattle.format.specs.Grains.{Map}
-use Rattle.format.specs.Layout.{tableCount, headerParts, headerBytes, layoutOf}
+use Rattle.format.specs.Layout.{headSectors, sectorsPerTable, tableCount, sectorOf, sectorsLaid, kdmvParts, cowdParts, headerBytes}
+use Rattle.format.specs.Layout.{layoutAs}
+use Rattle.format.specs.declared.Kind.{Kind}
+use Rattle.format.specs.declared.Kind.the-variants.{Kdmv, Cowd}
 use Rattle.format.specs.declared.KdmvFields.{KdmvFields}
+use Rattle.format.specs.declared.CowdFields.{CowdFields}
 use Rattle.format.specs.declared.Header.{Header}
-use Rattle.format.proofs.HeaderJudged.{kdmv-is}
-use Rattle.laws.proofs.LayoutNumbers.{Sizes}
+use Rattle.format.proofs.HeaderJudged.{kdmv-is, cowd-is}
+use Rattle.laws.proofs.LayoutNumbers.{Sizes, count-small, sector-small}
 use Rattle.format.proofs.Lengths.{header-length}
 use Rattle.laws.proofs.LayoutParts.{header-stands}
 
@@ -47,33 +53,65 @@ laidFields c size =
       compression = 0;
     }
 
--- and the header that it tells
-abbrev pub laidHeader : ℕ → ℕ → Header
-laidHeader c size =
+abbrev cowdLaid : ℕ → ℕ → CowdFields
+cowdLaid c size =
     record {
-      cowd = false;
+      version = 1;
       capacity = c;
       «grain_size» = size;
-      «header_sectors» = 1;
+      directory = 4;
+      «directory_entries» = tableCount Cowd c size;
+      dirty = 0;
+    }
+
+-- and the header that it tells
+abbrev isCowd : Kind → Bool
+isCowd Kdmv = false
+isCowd Cowd = true
+
+-- whether entry 1 means zeros
+abbrev pub oneIsZero : Kind → Bool
+oneIsZero Kdmv = true
+oneIsZero Cowd = false
+
+abbrev pub laidHeader : Kind → ℕ → ℕ → Header
+laidHeader kind c size =
+    record {
+      cowd = isCowd kind;
+      capacity = c;
+      «grain_size» = size;
+      «header_sectors» = headSectors kind;
       descriptor = 0;
       «descriptor_sectors» = 0;
-      directory = 1;
-      «directory_sectors» = directorySectors (tableCount c size);
+      directory = headSectors kind;
+      «directory_sectors» = directorySectors (tableCount kind c size);
       redundant = 0;
-      «entries_per_table» = 512;
-      «table_sectors» = 4;
-      «one_is_zero» = true;
+      «entries_per_table» = 128 * sectorsPerTable kind;
+      «table_sectors» = sectorsPerTable kind;
+      «one_is_zero» = oneIsZero kind;
       packed = false;
       footer = false;
       dirty = 0;
     }
 
+-- four bytes of a run of zeros
+zero-read : {s : List ℕ} {at : ℕ} (n i : ℕ) → Stands s at (zeros n) → i + 4 ≤ n → leAt s (at + i) 4 ≡ 0
+unfolding leBytes zeros
+zero-read n i h b =
+    read-number 4 0
+    (record {
+      inside = omega (arith, h .inside, zeros-length n);
+      same = λ j l.
+          rw add-assoc (h .same (i + j) (omega (arith, zeros-length n))) ∙ zeros-at n (i + j) ∙ sym (zeros-at 4 j);
+    })
+    (lit< tt)
+
 module _ {c size : ℕ} (z : Sizes c size) where
   -- ---- an image that begins with the header
-  module _ (s : List ℕ) (h : Stands s 0 (headerBytes c size)) where
-    field : (i : ℕ) → i < 15 → Stands s (length (firstOf (headerParts c size) i)) (getD (headerParts c size) i [])
+  module _ (s : List ℕ) (n : ℕ) (h : Stands s 0 (headerBytes Kdmv c size n)) where
+    field : (i : ℕ) → i < 15 → Stands s (length (firstOf (kdmvParts c size) i)) (getD (kdmvParts c size) i [])
     unfolding headerBytes
-    field i b = rw zero-add at (stands-in h (part-at (headerParts c size) i b))
+    field i b = rw zero-add at (stands-in h (part-at (kdmvParts c size) i b))
 
     fields-read : kdmvFields s ≡ laidFields c size
     unfolding kdmvFields rows leBytes zeros
@@ -97,7 +135,7 @@ module _ {c size : ℕ} (z : Sizes c size) where
     unfolding rows leBytes zeros
     rules-kept =
         record {
-          long = omega (arith, h .inside, header-length c size);
+          long = omega (arith, h .inside, header-length Kdmv c size n);
           magic = read-bytes (field 0 (lit< tt));
           version = (lit≤ tt, lit≤ tt);
           newline = λ t. read-bytes (field 12 (lit< tt));
@@ -112,16 +150,63 @@ module _ {c size : ℕ} (z : Sizes c size) where
           atEnd = λ q. absurd (omega (arith, q));
         }
 
+  -- ---- the same of COWD
+  module _ (s : List ℕ) (n : ℕ) (h : Stands s 0 (headerBytes Cowd c size n)) where
+    cowd-field : (i : ℕ) → i < 9 → Stands s (length (firstOf (cowdParts c size n) i)) (getD (cowdParts c size n) i [])
+    unfolding headerBytes
+    cowd-field i b = rw zero-add at (stands-in h (part-at (cowdParts c size n) i b))
+
+    cowd-read : cowdFields s ≡ cowdLaid c size
+    unfolding cowdFields rows leBytes zeros
+    cowd-read =
+        let version : leAt s 4 4 ≡ 1 = read-number 4 1 (cowd-field 1 (lit< tt)) (lit< tt) in
+        let capacity : leAt s 12 4 ≡ c = read-number 4 c (cowd-field 3 (lit< tt)) (omega (arith, z .capacity .high)) in
+        let grainSize : leAt s 16 4 ≡ size = read-number 4 size (cowd-field 4 (lit< tt)) (omega (arith, z .grainSize .high)) in
+        let directory : leAt s 20 4 ≡ 4 = read-number 4 4 (cowd-field 5 (lit< tt)) (lit< tt) in
+        let entries : leAt s 24 4 ≡ tableCount Cowd c size = read-number 4 _ (cowd-field 6 (lit< tt)) (count-small Cowd z) in
+        let dirty : leAt s 1648 4 ≡ 0 = zero-read 2016 1616 (cowd-field 8 (lit< tt)) (lit≤ tt) in
+        rw (version, capacity, grainSize, directory, entries, dirty)
+
+    cowd-kept : CowdRules s (cowdLaid c size)
+    unfolding rows leBytes zeros tableCount
+    cowd-kept =
+        record {
+          long = omega (arith, h .inside, header-length Cowd c size n);
+          magic = read-bytes (cowd-field 0 (lit< tt));
+          version = refl;
+          capacity = z .capacity;
+          grainSize = record { low = omega (arith, z .grainSize .low); high = z .grainSize .high; power = z .grainSize .power };
+          storedCount = omega arith;
+        }
+
   module _ (m : Map) where
-    fields : kdmvFields (layoutOf c size m) ≡ laidFields c size
-    fields = fields-read (layoutOf c size m) (header-stands z m)
+    fields : kdmvFields (layoutAs Kdmv c size m) ≡ laidFields c size
+    fields = fields-read (layoutAs Kdmv c size m) _ (header-stands Kdmv z m)
 
-    pub layout-rules : KdmvRules (layoutOf c size m) (kdmvFields (layoutOf c size m))
-    layout-rules = rw fields (rules-kept (layoutOf c size m) (header-stands z m))
+    pub layout-rules : KdmvRules (layoutAs Kdmv c size m) (kdmvFields (layoutAs Kdmv c size m))
+    layout-rules = rw fields (rules-kept (layoutAs Kdmv c size m) _ (header-stands Kdmv z m))
 
-    pub kdmv-laid : kdmvHeaderOf (layoutOf c size m) ≡ laidHeader c size
+    pub kdmv-laid : kdmvHeaderOf (layoutAs Kdmv c size m) ≡ laidHeader Kdmv c size
     unfolding kdmvHeader directoryOf pick tableCount
     kdmv-laid = rw fields
 
-    pub header-laid : headerOf (layoutOf c size m) ≡ laidHeader c size
-    header-laid = kdmv-is (layoutOf c size m) layout-rules ∙ kdmv-laid
+    cowd-fields : cowdFields (layoutAs Cowd c size m) ≡ cowdLaid c size
+    cowd-fields = cowd-read (layoutAs Cowd c size m) _ (header-stands Cowd z m)
+
+    pub cowd-rules : CowdRules (layoutAs Cowd c size m) (cowdFields (layoutAs Cowd c size m))
+    cowd-rules = rw cowd-fields (cowd-kept (layoutAs Cowd c size m) _ (header-stands Cowd z m))
+
+    pub cowd-laid : cowdHeaderOf (layoutAs Cowd c size m) ≡ laidHeader Cowd c size
+    unfolding cowdHeader
+    cowd-laid = rw cowd-fields
+
+    -- at offset 28 the file's length in sectors
+    pub sectors-read : leAt (layoutAs Cowd c size m) 28 4 ≡ sectorsLaid Cowd c size m
+    unfolding rows leBytes zeros sectorsLaid sectorOf
+    sectors-read =
+        read-number 4 _ (cowd-field (layoutAs Cowd c size m) _ (header-stands Cowd z m) 7 (lit< tt))
+        (sector-small Cowd z m (grains c size) (omega arith))
+
+pub header-laid : (kind : Kind) {c size : ℕ} → Sizes c size → (m : Map) → headerOf (layoutAs kind c size m) ≡ laidHeader kind c size
+header-laid Kdmv z m = kdmv-is _ (layout-rules z m) ∙ kdmv-laid z m
+header-laid Cowd z m = cowd-is _ (cowd-rules z m) ∙ cowd-laid z m

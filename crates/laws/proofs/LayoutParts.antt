@@ -9,41 +9,42 @@ use Rattle.base.proofs.Stands.{Stands, stands-at}
 use Rattle.base.proofs.Rows.{part-at}
 use Rattle.format.specs.Geometry.{grains}
 use Rattle.format.specs.Grains.{Map}
-use Rattle.format.specs.Layout.{Fits, tablesAt, tablesEnd, sectorV, headerBytes, directoryBytes, tableBytes, grainBytes}
-use Rattle.format.specs.Layout.{layoutParts, layoutOf, layoutLength}
+use Rattle.format.specs.Layout.{Fits, headSectors, tablesAt, tablesEnd, sectorV, sectorsLaid, headerBytes, directoryBytes}
+use Rattle.format.specs.Layout.{tableBytes, grainBytes, layoutParts, layoutAs, lengthAs}
+use Rattle.format.specs.declared.Kind.{Kind}
 use Rattle.format.proofs.Grains.{whole-length, stored-length}
 use Rattle.format.proofs.Lengths.{header-length, directory-length, tables-length, gap-length, grains-late}
 use Rattle.laws.proofs.LayoutNumbers.{Sizes, some-size}
 
-module _ {c size : ℕ} (z : Sizes c size) (m : Map) where
-  pub header-stands : Stands (layoutOf c size m) 0 (headerBytes c size)
-  unfolding layoutOf rows
-  header-stands = part-at (layoutParts c size m) 0 (omega arith)
+module _ (kind : Kind) {c size : ℕ} (z : Sizes c size) (m : Map) where
+  pub header-stands : Stands (layoutAs kind c size m) 0 (headerBytes kind c size (sectorsLaid kind c size m))
+  unfolding layoutAs rows
+  header-stands = part-at (layoutParts kind c size m) 0 (omega arith)
 
-  pub directory-stands : Stands (layoutOf c size m) 512 (directoryBytes c size)
-  unfolding layoutOf rows
-  directory-stands = stands-at 512 (header-length c size) (part-at (layoutParts c size m) 1 (omega arith))
+  pub directory-stands : Stands (layoutAs kind c size m) (512 * headSectors kind) (directoryBytes kind c size)
+  unfolding layoutAs rows
+  directory-stands = stands-at _ (header-length kind c size _) (part-at (layoutParts kind c size m) 1 (omega arith))
 
-  pub tables-stand : Stands (layoutOf c size m) (512 * tablesAt c size) (tableBytes c size m)
-  unfolding layoutOf rows tablesAt
+  pub tables-stand : Stands (layoutAs kind c size m) (512 * tablesAt kind c size) (tableBytes kind c size m)
+  unfolding layoutAs rows tablesAt
   tables-stand =
       stands-at _ (simp (length-append, header-length, directory-length) (omega arith))
-      (part-at (layoutParts c size m) 2 (omega arith))
+      (part-at (layoutParts kind c size m) 2 (omega arith))
 
-  before-grains : length (firstOf (layoutParts c size m) 4) ≡ 512 * sectorV c size
+  before-grains : length (firstOf (layoutParts kind c size m) 4) ≡ 512 * sectorV kind c size
   unfolding rows tablesEnd tablesAt
   before-grains =
       simp (length-append, header-length, directory-length, tables-length, gap-length)
-      (omega (arith, grains-late c size (some-size z)))
+      (omega (arith, grains-late kind c size (some-size z)))
 
-  pub grains-stand : Stands (layoutOf c size m) (512 * sectorV c size) (grainBytes c size m)
-  unfolding layoutOf
-  grains-stand = stands-at _ before-grains (part-at (layoutParts c size m) 4 (omega arith))
+  pub grains-stand : Stands (layoutAs kind c size m) (512 * sectorV kind c size) (grainBytes c size m)
+  unfolding layoutAs
+  grains-stand = stands-at _ before-grains (part-at (layoutParts kind c size m) 4 (omega arith))
 
   -- the result's length
-  pub layout-length : Fits c size m → length (layoutOf c size m) ≡ layoutLength c size m
-  unfolding layoutOf layoutLength rows grainBytes
+  pub layout-length : Fits c size m → length (layoutAs kind c size m) ≡ lengthAs kind c size m
+  unfolding layoutAs sectorsLaid rows grainBytes
   layout-length f =
       let long = stored-length size m (grains c size) (λ g b. whole-length c size g (m g) (f g b)) in
-      length-append (firstOf (layoutParts c size m) 4) (grainBytes c size m)
+      length-append (firstOf (layoutParts kind c size m) 4) (grainBytes c size m)
       ∙ rw (before-grains, long, mul-left-comm) (omega arith)

@@ -81,3 +81,4 @@ pub mod ExamplesHeader
 pub mod ExamplesLookup
 pub mod ExamplesEntryOne
 pub mod ExamplesSplit
+pub mod MovedImages

@@ -19,9 +19,10 @@ use Rattle.format.specs.Check.{misplaced, lowestFrom, markerBrokenAt, copyDiffe
 use Rattle.format.specs.Check.{checkCopies, checkGrains, checkLayout, checkFrom, check}
 use Rattle.format.specs.Source.{grainSource, lookupGrain, lookupEntry, lookupTable, lookupIn, lookupFrom, sectorLookup}
 use Rattle.format.specs.Grains.{grainFrom, oneIfStored, storedBelow}
-use Rattle.format.specs.Layout.{tableCount, tablesAt, tablesEnd, sectorV, layoutLength}
+use Rattle.format.specs.Layout.{tableCount, tablesAt, tablesEnd, sectorV, sectorsLaid}
 use Rattle.format.specs.Collapse.{ifAccepted, writtenIfRoom, normalFrom, normal}
 use Rattle.format.specs.Answers.{verdict, located, written}
+use Rattle.format.specs.declared.Kind.the-variants.{Kdmv}
 use Rattle.format.specs.declared.Header.{Header}
 use Rattle.format.specs.declared.CheckAnswer.{CheckAnswer}
 use Rattle.format.specs.declared.LookupAnswer.{LookupAnswer}
@@ -66,7 +67,7 @@ examples =
     ∷ example (looked (sectorLookup sample 256)) (0 ∷ 0 ∷ 2 ∷ 256 ∷ [])
     ∷ example (looked (sectorLookup sample 8192)) (20 ∷ 0 ∷ 0 ∷ 0 ∷ [])
     -- capacity 16, grain 8, one stored grain: V 8, result 8,192 bytes; output of 8,191 refused 21
-    ∷ example (sectorV 16 8 ∷ []) (8 ∷ [])
+    ∷ example (sectorV Kdmv 16 8 ∷ []) (8 ∷ [])
     ∷ example (wrote (normal (small 8 0 0 10) 8192)) (0 ∷ 0 ∷ 8192 ∷ [])
     ∷ example (wrote (normal (small 8 0 0 10) 8191)) (21 ∷ 0 ∷ 0 ∷ [])
     -- COWD capacity 4,097, grain 1: n 2
@@ -77,7 +78,7 @@ examples =
     ∷ []
 
 pub all-right : Every (λ (e : Example). e .gives ≡ e .wants) examples
-unfolding pick powerUpTo leAt leBytes sameAt zeros rows grains directoryEntries directorySectors kdmvFields kdmvFault footerBroken cowdFields cowdFault kdmvHeader cowdHeader directoryOf headerOf unlessFault withFooter judgeKdmv judgeCowd judge meaning inTable entryOfGrain grainSectors markerBroken anyBelow ifThere named redundantTables areas runsPast shares sharesAny meet misplaced lowestFrom markerBrokenAt copyDiffers copiesDiffer unlessGrain checkApart checkCopies checkGrains checkLayout checkFrom grainSource lookupGrain lookupEntry lookupTable lookupIn lookupFrom grainFrom oneIfStored storedBelow tableCount tablesAt tablesEnd sectorV layoutLength ifAccepted writtenIfRoom normalFrom
+unfolding pick powerUpTo leAt leBytes sameAt zeros rows grains directoryEntries directorySectors kdmvFields kdmvFault footerBroken cowdFields cowdFault kdmvHeader cowdHeader directoryOf headerOf unlessFault withFooter judgeKdmv judgeCowd judge meaning inTable entryOfGrain grainSectors markerBroken anyBelow ifThere named redundantTables areas runsPast shares sharesAny meet misplaced lowestFrom markerBrokenAt copyDiffers copiesDiffer unlessGrain checkApart checkCopies checkGrains checkLayout checkFrom grainSource lookupGrain lookupEntry lookupTable lookupIn lookupFrom grainFrom oneIfStored storedBelow tableCount tablesAt tablesEnd sectorV sectorsLaid ifAccepted writtenIfRoom normalFrom
 all-right =
     more refl (more refl (more refl (more refl (more refl
     (more refl (more refl (more refl (more refl (more refl (more refl (more refl none)))))))))))

@@ -23,6 +23,7 @@ use Rattle.format.proofs.Inside.{named-in}
 use Rattle.format.proofs.Grains.{clip-same}
 use Rattle.format.proofs.LowestGrain.{none-lowest}
 use Rattle.format.proofs.Passed.{layout-passed}
+use Rattle.format.specs.declared.Kind.the-variants.{Kdmv}
 use Rattle.laws.specs.Layers.{Layer, SameGrains}
 use Rattle.laws.specs.NeverUsed.{SameSectors}
 use Rattle.laws.proofs.ServedSectors.{accepted-good}
@@ -78,7 +79,7 @@ module _ (s t u v : List ℕ) (low : SameSectors s t) (up : SameSectors u v) whe
   collapsed-same : {c size : ℕ} → Layer c size s → Layer c size u → collapsed s u ≡ collapsed t v
   collapsed-same {c} {size} p q =
       collapsed-is p q
-      ∙ layout-same c size _ _ (λ g h. rw (map-same s t low p g h, map-same u v up q g h))
+      ∙ layout-same Kdmv c size _ _ (λ g h. rw (map-same s t low p g h, map-same u v up q g h))
       ∙ sym (collapsed-is (layer-same s t low p) (layer-same u v up q))
 
   pub never-used-collapse : (room : ℕ) → collapse s u room ≡ collapse t v room

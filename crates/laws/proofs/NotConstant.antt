@@ -22,7 +22,7 @@ use Rattle.format.specs.Source.{grainSource, lookupGrain, lookupEntry, lookupTa
 use Rattle.format.specs.Source.{answerPart}
 use Rattle.format.specs.Chain.{lengthsSum, unlike, ifKnown, headersDown, unlessAbsent, walkDown, walk, chainLookup}
 use Rattle.format.specs.Grains.{upperUnlessAbsent, grainFrom, oneIfStored, storedBelow}
-use Rattle.format.specs.Layout.{tableCount, tablesAt, tablesEnd, sectorV, layoutLength}
+use Rattle.format.specs.Layout.{tableCount, tablesAt, tablesEnd, sectorV, sectorsLaid}
 use Rattle.format.specs.Collapse.{ifAccepted, writtenIfRoom, normalFrom, normal, collapseFrom, collapse}
 use Rattle.format.specs.Frame.{frameAreas, listedIfRoom, frameFrom, frame}
 use Rattle.format.specs.CheckIn.{sectorsOf, beforeMeeting, cameToMarking, checkInRoom, withMarked, checkIn}
@@ -123,13 +123,13 @@ survey-varies r same =
 
 -- eight sectors are written, for which there is room
 pub normal-varies : (r : Written) → ((s : List ℕ) (room : ℕ) → r ≡ written (normal s room)) → ⊥
-unfolding pick powerUpTo leAt leBytes sameAt zeros grains directoryEntries directorySectors kdmvFields kdmvFault kdmvHeader directoryOf unlessFault withFooter judgeKdmv judge rows meaning inTable entryOfGrain ifThere named redundantTables areas runsPast shares sharesAny meet misplaced lowestFrom copiesDiffer unlessGrain checkApart checkCopies checkGrains checkLayout checkFrom headerOf grainFrom oneIfStored storedBelow tableCount tablesAt tablesEnd sectorV layoutLength ifAccepted writtenIfRoom normalFrom
+unfolding pick powerUpTo leAt leBytes sameAt zeros grains directoryEntries directorySectors kdmvFields kdmvFault kdmvHeader directoryOf unlessFault withFooter judgeKdmv judge rows meaning inTable entryOfGrain ifThere named redundantTables areas runsPast shares sharesAny meet misplaced lowestFrom copiesDiffer unlessGrain checkApart checkCopies checkGrains checkLayout checkFrom headerOf grainFrom oneIfStored storedBelow tableCount tablesAt tablesEnd sectorV sectorsLaid ifAccepted writtenIfRoom normalFrom
 normal-varies r same =
     differ (λ s. written (normal s 4096)) (λ (v : Written). v .length) (small 0 0 0 0) 4096 (omega arith) refl refl r
     (λ s. same s 4096)
 
 pub collapse-varies : (r : Written) → ((lower upper : List ℕ) (room : ℕ) → r ≡ written (collapse lower upper room)) → ⊥
-unfolding pick powerUpTo leAt leBytes sameAt zeros grains directoryEntries directorySectors kdmvFields kdmvFault kdmvHeader directoryOf unlessFault withFooter judgeKdmv judge rows meaning inTable entryOfGrain ifThere named redundantTables areas runsPast shares sharesAny meet misplaced lowestFrom copiesDiffer unlessGrain checkApart checkCopies checkGrains checkLayout checkFrom headerOf grainFrom oneIfStored storedBelow tableCount tablesAt tablesEnd sectorV layoutLength ifAccepted writtenIfRoom upperUnlessAbsent unlike collapseFrom
+unfolding pick powerUpTo leAt leBytes sameAt zeros grains directoryEntries directorySectors kdmvFields kdmvFault kdmvHeader directoryOf unlessFault withFooter judgeKdmv judge rows meaning inTable entryOfGrain ifThere named redundantTables areas runsPast shares sharesAny meet misplaced lowestFrom copiesDiffer unlessGrain checkApart checkCopies checkGrains checkLayout checkFrom headerOf grainFrom oneIfStored storedBelow tableCount tablesAt tablesEnd sectorV sectorsLaid ifAccepted writtenIfRoom upperUnlessAbsent unlike collapseFrom
 collapse-varies r same =
     differ (λ s. written (collapse s s 4096)) (λ (v : Written). v .length) (small 0 0 0 0) 4096 (omega arith) refl refl r
     (λ s. same s s 4096)

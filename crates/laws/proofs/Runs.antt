@@ -7,7 +7,7 @@ use native.Mathlib.Omega.{arith}
 use lib.ListN.{length, getD, length-append}
 use borrow.Author.Tests.{le-ltb}
 use Rattle.format.specs.Geometry.{grains}
-use Rattle.format.specs.Layout.{layoutLength}
+use Rattle.format.specs.Layout.{sectorsLaid, layoutLength}
 use Rattle.format.specs.Source.{sectorLookup}
 use Rattle.format.specs.Chain.{chainLookup}
 use Rattle.format.specs.Collapse.{writtenIfRoom}
@@ -75,7 +75,7 @@ module _ {c size : ℕ} where
   -- what comes of a pair is as long as the layout of its layers
   pub pairing-length : (a b : Pairing) → Every (Layer c size) (layersOf (pair a b))
       → length (pairedImage (pair a b)) ≡ layoutLength c size (mapOfLayers (layersOf (pair a b)))
-  unfolding layersOf pairedImage layoutLength
+  unfolding layersOf pairedImage sectorsLaid
   pairing-length a b e =
       let p = pairing-accepted a (front (layersOf a) _ e) in
       let q = pairing-accepted b (back (layersOf a) _ e) in

@@ -10,7 +10,7 @@ use Rattle.format.specs.Header.{headerOf}
 use Rattle.format.specs.Entries.{grainEntry}
 use Rattle.format.specs.Check.{check}
 use Rattle.format.specs.Grains.{Map, merge, grainFrom, upperUnlessAbsent, oneIfStored, storedBelow}
-use Rattle.format.specs.Layout.{layoutLength}
+use Rattle.format.specs.Layout.{sectorsLaid, layoutLength}
 use Rattle.format.specs.Collapse.{mapOf, ifAccepted, notCollapsible, stillOpen, writtenIfRoom, normal, collapseFrom, collapse}
 use Rattle.format.specs.declared.Entry.{Entry}
 use Rattle.format.specs.declared.Entry.the-variants.{Absent, Zero, Sector}
@@ -60,7 +60,7 @@ if-same (Accepted c size) x y f = f c size refl
 module _ (s t u v : List ℕ) (low : SameUsed s t) (up : SameUsed u v) where
   length-same : {c size : ℕ} → Layer c size s → Layer c size u
       → layoutLength c size (merge (mapOf s) (mapOf u)) ≡ layoutLength c size (merge (mapOf t) (mapOf v))
-  unfolding layoutLength
+  unfolding sectorsLaid
   length-same {c} {size} p q =
       rw (below-same (merge (mapOf s) (mapOf u)) (merge (mapOf t) (mapOf v)) (grains c size)
       (λ g l.

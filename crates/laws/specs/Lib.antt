@@ -11,3 +11,4 @@ pub mod FirstMeeting
 pub mod Misplaced
 pub mod Examples
 pub mod ExampleLayers
+pub mod MovedImages

@@ -12,12 +12,12 @@ use Rattle.format.specs.Grains.{Map}
 use Rattle.format.specs.Layout.{headSectors, sectorsPerTable, tableCount, tablesAt, tablesEnd, sectorV, sectorOf, sectorsLaid}
 use Rattle.format.specs.Layout.{headerBytes, directoryBytes, tableBytes, gapBytes, grainBytes, layoutAs}
 use Rattle.format.specs.declared.Kind.{Kind}
-use Rattle.format.proofs.Lengths.{header-length, directory-length, gap-length, grains-late}
+use Rattle.format.proofs.Lengths.{header-length, directory-length, gap-length, entries-fit, grains-late}
 use Rattle.layout.specs.WrittenParts.{entriesEnd, unused, withFront, entryIn, bytesIn, withGrains}
 use Rattle.base.proofs.OverApart.{over-swap}
 use Rattle.layout.proofs.EntryRuns.{entries-long}
 use Rattle.layout.proofs.Padded.{entries-padded}
-use Rattle.layout.proofs.PartSizes.{entries-fit, unused-ends, entries-before}
+use Rattle.layout.proofs.PartSizes.{unused-ends, entries-before}
 
 regroup : (h d e x y b t : List ℕ) → t ≡ e ++ x → h ++ d ++ e ++ (x ++ y) ++ b ≡ h ++ d ++ t ++ y ++ b
 regroup h d e x y b t q = rw q (simp append-assoc)

@@ -11,8 +11,8 @@ use Rattle.format.specs.Geometry.{grains, directorySectors}
 use Rattle.format.specs.Layout.{headSectors, sectorsPerTable, tableCount, tablesAt, tablesEnd, sectorV, gapBytes}
 use Rattle.format.specs.declared.Kind.{Kind}
 use Rattle.format.specs.declared.Kind.the-variants.{Kdmv, Cowd}
-use Rattle.format.proofs.Geometry.{entries-enough, directory-room}
-use Rattle.format.proofs.Lengths.{few, grains-late}
+use Rattle.format.proofs.Geometry.{directory-room}
+use Rattle.format.proofs.Lengths.{entries-fit, grains-late}
 use Rattle.layout.specs.WrittenParts.{entriesEnd, unused}
 
 -- ---- as the code computes them
@@ -57,18 +57,11 @@ module _ (kind : Kind) (c z : ℕ) where
   directory-ends b n t d e f = rw (d, e, f) directory-fits
 
   module _ (l : 1 ≤ z) where
-    -- the tables have an entry for each grain
-    pub entries-fit : grains c z ≤ 128 * (sectorsPerTable kind * tableCount kind c z)
-    unfolding tableCount
-    entries-fit =
-        let f = few kind in
-        omega (arith, entries-enough c z l (128 * sectorsPerTable kind) (omega arith))
-
     -- unused entries end with the tables, and the gap follows
     pub unused-ends : entriesEnd kind c z + 4 * (128 * (sectorsPerTable kind * tableCount kind c z) - grains c z)
         ≡ 512 * tablesEnd kind c z
     unfolding tablesEnd
-    unused-ends = omega (arith, entries-fit)
+    unused-ends = omega (arith, entries-fit kind c z l)
 
     pub unused-fits : (t g e : ℕ) → t ≡ tablesAt kind c z → g ≡ grains c z → e ≡ tablesEnd kind c z
         → 512 * t + 4 * g ≤ 512 * e
