@@ -33,17 +33,17 @@ use Rattle.laws.proofs.CollapsedLayers.{capacity-is, size-is}
 use Rattle.laws.proofs.CollapsedImages.{normal-length, collapsed-length}
 
 -- ---- where it was written, nothing was refused
-was-accepted : (a : CheckAnswer) (b : CollapseAnswer) (long : ℕ) → ifAccepted a b ≡ Written long
+pub was-accepted : (a : CheckAnswer) (b : CollapseAnswer) (long : ℕ) → ifAccepted a b ≡ Written long
     → (c : ℕ) × (size : ℕ) × (a ≡ Accepted c size) × (b ≡ Written long)
 unfolding ifAccepted
 was-accepted (unaccepted r) b long e = let z : _≡_ {A = ℕ} 0 1 = cc in absurd (omega arith)
 was-accepted (Accepted c size) b long e = (c, size, refl, e)
 
-written-past : (b : Bool) (r : Refusal) (y : CollapseAnswer) (long : ℕ) → pick b (Refused r) y ≡ Written long
+pub written-past : (b : Bool) (r : Refusal) (y : CollapseAnswer) (long : ℕ) → pick b (Refused r) y ≡ Written long
     → (b ≡ false) × (y ≡ Written long)
 written-past b r y long e = passed b (Refused r) y (Written long) (λ q. let z : _≡_ {A = ℕ} 0 1 = cc in omega arith) e
 
-written-long : (room n long : ℕ) → writtenIfRoom room n ≡ Written long → (long ≡ n) × (long ≤ room)
+pub written-long : (room n long : ℕ) → writtenIfRoom room n ≡ Written long → (long ≡ n) × (long ≤ room)
 unfolding writtenIfRoom
 written-long room n long e =
     let r = written-past (ltb room n) _ _ long e in

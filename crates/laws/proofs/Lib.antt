@@ -82,3 +82,6 @@ pub mod ExamplesLookup
 pub mod ExamplesEntryOne
 pub mod ExamplesSplit
 pub mod MovedImages
+pub mod MovedAnswer
+pub mod ExamplesMoves
+pub mod NotConstantMoves

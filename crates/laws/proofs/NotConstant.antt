@@ -55,7 +55,7 @@ use Rattle.descriptor.specs.Descriptor.{ended, judged, judgedText, readText}
 use Rattle.descriptor.specs.Records.{accepted, handed, answered, descriptorAnswer, foundFrom, findAnswer}
 
 -- a number of the answer is 0 for nothing and a for x, so no r is the answer for both
-differ : {A B : Type 0} (f : List A → B) (n : B → ℕ) (x : List A) (a : ℕ) → 1 ≤ a → n (f []) ≡ 0 → n (f x) ≡ a → (r : B)
+pub differ : {A B : Type 0} (f : List A → B) (n : B → ℕ) (x : List A) (a : ℕ) → 1 ≤ a → n (f []) ≡ 0 → n (f x) ≡ a → (r : B)
     → ((z : List A) → r ≡ f z) → ⊥
 differ f n x a some p q r same = omega (arith, sym p ∙ ap n (sym (same []) ∙ same x) ∙ q)
 

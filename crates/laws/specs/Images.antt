@@ -53,6 +53,10 @@ cowdSectors capacity size directory stored =
     ∷ zeros 2020
     ∷ [])
 
+-- a COWD image of capacity 16 and grain size 8 without a table: the directory at sector 4
+abbrev pub smallCowd : List ℕ
+smallCowd = joined (cowdSectors 16 8 4 1 ∷ zeros 512 ∷ [])
+
 -- source 000's sample, of version 1: the directory at sector 26 holds 27, the table there 128, 0, 256; 384 sectors in all
 abbrev pub sample : List ℕ
 sample =
