@@ -220,3 +220,15 @@ pub fn collapse(lower: &[u8], upper: &[u8], out: &mut [u8]) {
     let a = collapse::collapse(lower, upper, &mut *out);
     put_answer(a, out);
 }
+
+// Both moves, each of the same image.
+pub fn moves(image: &[u8], out: &mut [u8]) {
+    programs::start(b"to_kdmv ");
+    fill(&mut *out);
+    let a = moves::to_kdmv(image, &mut *out);
+    put_answer(a, out);
+    programs::start(b"to_cowd ");
+    fill(&mut *out);
+    let b = moves::to_cowd(image, &mut *out);
+    put_answer(b, out);
+}

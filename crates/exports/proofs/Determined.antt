@@ -18,6 +18,8 @@ use Rattle.exports.proofs.anhkhovet_read as read
 use Rattle.exports.proofs.anhkhovet_frame as frame
 use Rattle.exports.proofs.anhkhovet_normal as normal
 use Rattle.exports.proofs.anhkhovet_collapse as collapse
+use Rattle.exports.proofs.anhkhovet_to_kdmv as to-kdmv
+use Rattle.exports.proofs.anhkhovet_to_cowd as to-cowd
 use Rattle.exports.proofs.lists.anhkhovet_survey as survey
 use Rattle.exports.proofs.lists.anhkhovet_mend as mend
 use Rattle.exports.proofs.extents.anhkhovet_descriptor as descriptor
@@ -156,6 +158,14 @@ normal-determined =
 pub collapse-determined : Determined collapse.ended (λ M. collapse.spec)
 collapse-determined =
     written-apart collapse.ended _ _ _ (λ κs e. now (e .1 .1 .0)) (λ κs a x. (tt, (tt, (x, tt)))) (λ κs a ws. refl)
+
+pub to-kdmv-determined : Determined to-kdmv.ended (λ M. to-kdmv.spec)
+to-kdmv-determined =
+    written-apart to-kdmv.ended _ _ _ (λ κs e. now (e .1 .0)) (λ κs a x. (tt, (x, tt))) (λ κs a ws. refl)
+
+pub to-cowd-determined : Determined to-cowd.ended (λ M. to-cowd.spec)
+to-cowd-determined =
+    written-apart to-cowd.ended _ _ _ (λ κs e. now (e .1 .0)) (λ κs a x. (tt, (x, tt))) (λ κs a ws. refl)
 
 pub survey-determined : Determined survey.ended (λ M. survey.spec)
 survey-determined =

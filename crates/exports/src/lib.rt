@@ -8,6 +8,7 @@ ghost use Rattle.format.specs.Frame.{frame, frameList};
 ghost use Rattle.format.specs.Source.{sectorLookup, answerPart};
 ghost use Rattle.format.specs.Chain.{chainLookup};
 ghost use Rattle.format.specs.Collapse.{normal, normalOutput, collapse, collapseOutput};
+ghost use Rattle.format.specs.Moves.{toKdmv, toKdmvOutput, toCowd, toCowdOutput};
 ghost use Rattle.format.specs.Answers.{headerNumbers, verdict, markedNumbers, located, chained, written, framed};
 use format::Framed;
 use format::Head;
@@ -85,4 +86,20 @@ pub extern "C" fn anhkhovet_collapse(lower: &[u8], upper: &[u8], out: &mut [u8])
     ensures { λ r. ⌜ now (out .exit) ≡ collapseOutput (now (lower .entry)) (now (upper .entry)) (now (out .entry)) ⌝ }
 {
     answers::written_of(collapse::collapse(lower, upper, &mut *out))
+}
+
+#[no_mangle]
+pub extern "C" fn anhkhovet_to_kdmv(image: &[u8], out: &mut [u8]) -> Written
+    ensures { λ r. ⌜ r ≡ written (toKdmv (now (image .entry)) (length (now (out .entry)))) ⌝ }
+    ensures { λ r. ⌜ now (out .exit) ≡ toKdmvOutput (now (image .entry)) (now (out .entry)) ⌝ }
+{
+    answers::written_of(moves::to_kdmv(image, &mut *out))
+}
+
+#[no_mangle]
+pub extern "C" fn anhkhovet_to_cowd(image: &[u8], out: &mut [u8]) -> Written
+    ensures { λ r. ⌜ r ≡ written (toCowd (now (image .entry)) (length (now (out .entry)))) ⌝ }
+    ensures { λ r. ⌜ now (out .exit) ≡ toCowdOutput (now (image .entry)) (now (out .entry)) ⌝ }
+{
+    answers::written_of(moves::to_cowd(image, &mut *out))
 }

@@ -64,7 +64,8 @@ module _ {c size : ℕ} where
       let p = front (layersOf a) _ e in
       let q = back (layersOf a) _ e in
       collapsed-is (pairing-accepted a p) (pairing-accepted b q)
-      ∙ layout-same Kdmv c size _ _ (λ g h. rw (pairing-map a p g h, pairing-map b q g h, stack-append (layersOf a) (layersOf b)))
+      ∙ layout-same Kdmv c size _ _
+      (λ g h. rw (pairing-map a p g h, pairing-map b q g h, stack-append (layersOf a) (layersOf b)))
 
   -- so the pairing makes no difference to the bytes
   pub pairings-alike : (t u : Pairing) → Every (Layer c size) (layersOf t) → layersOf t ≡ layersOf u → pairedImage t

@@ -15,6 +15,7 @@ use Rattle.format.specs.Grains.{Map, absent, stored, bytesOf, oneIfStored, stor
 use Rattle.format.specs.Layout.{tableCount, tablesAt, tablesEnd, sectorV, sectorOf, sectorsLaid, headerBytes, directoryBytes}
 use Rattle.format.specs.Layout.{tableBytes, gapBytes, grainBytes}
 use Rattle.format.specs.Collapse.{ifAccepted, writtenIfRoom}
+use Rattle.format.specs.Answers.{number, place}
 use Rattle.format.specs.Moves.{saysZero, moveFrom, toKdmv, toCowd}
 use Rattle.format.specs.declared.Kind.the-variants.{Kdmv, Cowd}
 use Rattle.format.specs.declared.Header.{Header}
@@ -32,8 +33,8 @@ one (suc (suc g)) = absent
 
 -- a COWD header of a grain size and a dirty number
 abbrev cowd : ℕ → ℕ → Header
-cowd size dirty =
-    cowdHeader (record { version = 1; capacity = 16; «grain_size» = size; directory = 4; «directory_entries» = 1; dirty = dirty })
+cowd size told =
+    cowdHeader (record { version = 1; capacity = 16; «grain_size» = size; directory = 4; «directory_entries» = 1; dirty = told })
 
 -- ---- answers
 abbrev answers : List (Example CollapseAnswer)
@@ -68,7 +69,7 @@ pub moves-answered : Hold answers
 unfolding pick leAt leBytes zeros sameAt grains directoryEntries directorySectors cowdHeader judge meaning inTable entryOfGrain anyBelow checkFrom oneIfStored storedBelow tableCount tablesAt tablesEnd sectorV sectorsLaid ifAccepted writtenIfRoom saysZero moveFrom
 moves-answered = refl
 
--- ---- numbers of the COWD normal form
+-- ---- numbers of the COWD normal form, and 44's
 abbrev numbers : List (Example ℕ)
 numbers =
     -- 4,096 grains of 8 sectors have one table, 4,097 have two
@@ -82,6 +83,9 @@ numbers =
     ∷ example (sectorOf Cowd 16 8 one 1) 37
     ∷ example (sectorOf Cowd 16 8 one 2) 45
     ∷ example (sectorsLaid Cowd 16 8 one) 45
+    -- 44, with place 0
+    ∷ example (number NotMovable) 44
+    ∷ example (place NotMovable) 0
     ∷ []
 
 pub cowd-numbers : Hold numbers

@@ -2,14 +2,14 @@
 use Prim.Native.Nat.{ℕ, suc, _+_, _*_, _<_}
 use mathlib.Core.Path.{_≡_, refl}
 use mathlib.Core.Bool.{false≢true}
-use mathlib.Core.List.{[], _∷_}
+use mathlib.Core.List.{List, [], _∷_}
 use native.Mathlib.Omega.{arith}
 use native.Mathlib.Nat.{mul-div-right, add-assoc, mul-suc}
 use lib.Dec.{lit<}
 use Rattle.base.specs.Pick.{pick}
 use Rattle.format.specs.Geometry.{fileSectors, grains, directorySectors}
 use Rattle.format.specs.Entries.{meaningAt, grainSectors}
-use Rattle.format.specs.Areas.{area, ifThere, named, primaryTables, redundantTables, grainArea, grainAreas, areas}
+use Rattle.format.specs.Areas.{Area, area, ifThere, named, primaryTables, redundantTables, grainArea, grainAreas, areas}
 use Rattle.format.specs.Accepted.{AreaRules, Accepted}
 use Rattle.format.specs.Accepted.Accepted.{kdmv, cowd}
 use Rattle.format.specs.Grains.{Grain, absent, zeroed, stored, Map, oneIfStored, storedBelow}
@@ -60,8 +60,10 @@ module _ (kind : Kind) {c size : ℕ} (z : Sizes c size) (m : Map) where
       between-wide _ _ (tablesEnd kind c size) _ _ (omega arith) (grains-late kind c size (some-size z))
       (between-rows (tableCount kind c size) _ (λ d. tablesAt kind c size + sectorsPerTable kind * d) table-between)
 
-  heads-between : Between 0 (area 0 (headSectors kind) ∷ area (headSectors kind) (directorySectors (tableCount kind c size)) ∷ [])
-      (tablesAt kind c size)
+  abbrev heads : List Area
+  heads = area 0 (headSectors kind) ∷ area (headSectors kind) (directorySectors (tableCount kind c size)) ∷ []
+
+  heads-between : Between 0 heads (tablesAt kind c size)
   unfolding Between tablesAt
   heads-between = (omega arith, (omega arith, omega arith))
 
@@ -85,8 +87,8 @@ module _ (kind : Kind) {c size : ℕ} (z : Sizes c size) (m : Map) where
     all-between : Between 0 (areas (layoutAs kind c size m) (laidHeader kind c size)) (sectorOf kind c size m (grains c size))
     unfolding areas ifThere redundantTables pick
     all-between =
-        between-append (area 0 (headSectors kind) ∷ area (headSectors kind) (directorySectors (tableCount kind c size)) ∷ []) _ 0
-        (tablesAt kind c size) _ heads-between (between-append _ _ _ _ _ tables-between grains-between)
+        between-append heads _ 0 (tablesAt kind c size) _ heads-between
+        (between-append _ _ _ _ _ tables-between grains-between)
 
     module _ (f : Fits c size m) where
       pub file-sectors : fileSectors (layoutAs kind c size m) ≡ sectorsLaid kind c size m

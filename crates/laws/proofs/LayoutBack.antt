@@ -52,7 +52,8 @@ entry-told Cowd zeroed v w h = absurd w
 entry-told kind (stored b) v w h = sector-told (oneIsZero kind) v h
 
 -- tables of k sectors, one after the other from `first` on, are one run of entries: for any number of entries per table
-module _ (s : List ℕ) (b : Bool) (at first k n : ℕ) (late : 2 ≤ first) (named : (d : ℕ) → d < n → entryAt s at d ≡ first + k * d)
+module _ (s : List ℕ) (b : Bool) (at first k n : ℕ) (late : 2 ≤ first)
+    (named : (d : ℕ) → d < n → entryAt s at d ≡ first + k * d)
   where
     flat-entry : (g : ℕ) → g / (128 * k) < n → entryOfGrain s b (128 * k) at g ≡ meaning b (leAt s (512 * first + 4 * g) 4)
     unfolding entryOfGrain inTable
@@ -80,7 +81,8 @@ module _ (kind : Kind) {c size : ℕ} (z : Sizes c size) (m : Map) where
       pick-then _ _ _ (lt-ltb d (tableCount kind c size) h) in
       read-number 4 _
       (stands-at _ (omega arith)
-      (stands-in (directory-stands kind z m) (rw e at (entry-at _ (directoryEntry kind c size) d (directory-below kind z d h)))))
+      (stands-in (directory-stands kind z m)
+      (rw e at (entry-at _ (directoryEntry kind c size) d (directory-below kind z d h)))))
       (table-small kind z d h)
 
   pub entry-read : (g : ℕ) → g < grains c size → Held kind (m g)

@@ -23,8 +23,8 @@ use Rattle.format.specs.Cowd.{cowdFields}
 use Rattle.format.specs.Header.{kdmvHeader, cowdHeader, directoryOf, kdmvHeaderOf, cowdHeaderOf, headerOf}
 use Rattle.format.specs.Accepted.{KdmvRules, CowdRules}
 use Rattle.format.specs.Grains.{Map}
-use Rattle.format.specs.Layout.{headSectors, sectorsPerTable, tableCount, sectorOf, sectorsLaid, kdmvParts, cowdParts, headerBytes}
-use Rattle.format.specs.Layout.{layoutAs}
+use Rattle.format.specs.Layout.{headSectors, sectorsPerTable, tableCount, sectorOf, sectorsLaid, kdmvParts, cowdParts}
+use Rattle.format.specs.Layout.{headerBytes, layoutAs}
 use Rattle.format.specs.declared.Kind.{Kind}
 use Rattle.format.specs.declared.Kind.the-variants.{Kdmv, Cowd}
 use Rattle.format.specs.declared.KdmvFields.{KdmvFields}
@@ -207,6 +207,7 @@ module _ {c size : ℕ} (z : Sizes c size) where
         read-number 4 _ (cowd-field (layoutAs Cowd c size m) _ (header-stands Cowd z m) 7 (lit< tt))
         (sector-small Cowd z m (grains c size) (omega arith))
 
-pub header-laid : (kind : Kind) {c size : ℕ} → Sizes c size → (m : Map) → headerOf (layoutAs kind c size m) ≡ laidHeader kind c size
+pub header-laid : (kind : Kind) {c size : ℕ} → Sizes c size → (m : Map)
+    → headerOf (layoutAs kind c size m) ≡ laidHeader kind c size
 header-laid Kdmv z m = kdmv-is _ (layout-rules z m) ∙ kdmv-laid z m
 header-laid Cowd z m = cowd-is _ (cowd-rules z m) ∙ cowd-laid z m

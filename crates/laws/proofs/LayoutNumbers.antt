@@ -67,7 +67,9 @@ module _ (kind : Kind) {c size : ℕ} (z : Sizes c size) where
   end-small = let f = few kind in omega (arith, mul-le-mul-right (tableCount kind c size) (f .table))
 
   pub count-small : tableCount kind c size < 0x100000000
-  count-small = let f = few kind in omega (arith, few-tables, mul-le-mul-right (tableCount kind c size) (f .table), z .capacity .high)
+  count-small =
+      let f = few kind in
+      omega (arith, few-tables, mul-le-mul-right (tableCount kind c size) (f .table), z .capacity .high)
 
   pub table-small : (d : ℕ) → d < tableCount kind c size → tablesAt kind c size + sectorsPerTable kind * d < 0x100000000
   unfolding tablesEnd

@@ -61,7 +61,8 @@ module _ (kind : Kind) (c z : ℕ) where
   directory-is =
       let n = tableCount kind c z in
       let l : n ≤ 128 * directorySectors n = omega (arith, directory-fits kind c z) in
-      let q : 4 * (128 * directorySectors n - n) ≡ 512 * (headSectors kind + directorySectors n) - (from + 4 * n) = omega arith in
+      let q : 4 * (128 * directorySectors n - n) ≡ 512 * (headSectors kind + directorySectors n) - (from + 4 * n) =
+      omega arith in
       entries-padded n (λ d. headSectors kind + directorySectors n + sectorsPerTable kind * d) (128 * directorySectors n) l
       ∙ rw q
 

@@ -12,7 +12,8 @@ use Rattle.format.specs.Layout.{headSectors, sectorsPerTable, tableCount, table
 use Rattle.format.specs.Layout.{gapBytes}
 use Rattle.format.specs.declared.Kind.{Kind}
 
--- the KDMV header's fields up to entries per table, and those from the redundant directory on; its last two are one run of zeros
+-- the KDMV header's fields up to entries per table, and those from the redundant directory on, of which the last two are one
+-- run of zeros
 unfoldable pub headerFront : ℕ → ℕ → List ℕ
 headerFront c n =
     allOf (kdmvMagic ∷ leBytes 4 2 ∷ leBytes 4 5 ∷ leBytes 8 c ∷ leBytes 8 n ∷ leBytes 8 0 ∷ leBytes 8 0 ∷ leBytes 4 512 ∷ [])

@@ -76,7 +76,8 @@ module _ (kind : Kind) (s : List ℕ) (h : Header) (room : ℕ) (image d : List 
     then-sized f p = not-here NotCollapsible _ image d e n (not-here StillOpen _ image d o f p)
 
 -- where 23 is not given, the image can be read
-pub read-taken : (kind : Kind) (s : List ℕ) (h : Header) {a : Bool} → Checked s h → a ≡ notTaken kind h → a ≡ false → Readable s h
+pub read-taken : (kind : Kind) (s : List ℕ) (h : Header) {a : Bool} → Checked s h → a ≡ notTaken kind h → a ≡ false
+    → Readable s h
 read-taken kind s h c e n = readable s h c (or-no (isKind kind h) (h .packed) (sym e ∙ n) .1)
 
 -- the image's header is the one that its bytes tell

@@ -38,7 +38,8 @@ any-zero-spec =
     let z = c .before in
     let l = z .before .before .before in (
       search needs,
-      some-next _ _ (zero-here _ _ _ (l .before .before .before .args .h) _ (z .before .entry-of .ensures) (z .says-zero .ensures))
+      some-next _ _
+          (zero-here _ _ _ (l .before .before .before .args .h) _ (z .before .entry-of .ensures) (z .says-zero .ensures))
           (l .loop .inv .1) (c .if1 .left),
     ))
     (λ c.

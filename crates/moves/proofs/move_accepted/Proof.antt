@@ -15,8 +15,8 @@ move-accepted-spec =
     (λ c.
     let i = c .before .before in
     let a = i .before .before .before .before .args in
-    not-clean (a .kind) (a .image .now) (a .h) _ _ _ (i .before .not-taken .ensures) (i .if1 .left) (c .before .still-open .ensures)
-    (c .if2 .taken))
+    not-clean (a .kind) (a .image .now) (a .h) _ _ _ (i .before .not-taken .ensures) (i .if1 .left)
+    (c .before .still-open .ensures) (c .if2 .taken))
     (λ c κs.
     let i = c .before .before .before in
     let s = i .before .before .before .before in

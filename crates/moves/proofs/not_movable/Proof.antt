@@ -11,4 +11,5 @@ not-movable-spec =
     (λ c. let a = c .before .before .before .args in too-small (a .kind) (a .image .now) (a .h) (omega arith))
     (λ zero-lost-requires κs. search needs)
     (λ c.
-    let a = c .before .before .before .before .args in large-enough (a .kind) (a .image .now) (a .h) (omega arith) (c .zero-lost .ensures)))
+    let a = c .before .before .before .before .args in
+    large-enough (a .kind) (a .image .now) (a .h) (omega arith) (c .zero-lost .ensures)))

@@ -17,4 +17,5 @@ write-image-spec =
     let s = f .before .before .before .before .before in
     let a = s .args in
     image-join _ _ _ (s .pre .0 .0 .below .sound .sizes .low) (layered (a .lower .now) (a .h) (a .upper .now) (a .k)) _ _ _
-    (c .before .before .write-grains .ensures) (rw (s .pre .1) at (f .write-front .ensures)) (front-room _ _ _ _ _ (s .pre .0 .1))))
+    (c .before .before .write-grains .ensures) (rw (s .pre .1) at (f .write-front .ensures))
+    (front-room _ _ _ _ _ (s .pre .0 .1))))
