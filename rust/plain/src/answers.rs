@@ -99,7 +99,7 @@ pub struct Part {
     pub length: u64,
 }
 
-/// The answer of collapse and normal form: the result's length in bytes.
+/// The answer of collapse, normal form and both moves: the result's length in bytes.
 #[derive(Clone, Copy, Debug, Default, PartialEq, Eq)]
 pub struct Written {
     pub number: u64,

@@ -9,6 +9,27 @@ pub enum Kind {
     Cowd,
 }
 
+impl Kind {
+    pub fn entries_per_table(self) -> u64 {
+        match self {
+            Kind::Kdmv => 512,
+            Kind::Cowd => 4096,
+        }
+    }
+
+    /// Sectors of one table: 4, or 32 for COWD.
+    pub fn table_sectors(self) -> u64 {
+        self.entries_per_table() * 4 / SECTOR
+    }
+
+    pub fn header_sectors(self) -> u64 {
+        match self {
+            Kind::Kdmv => 1,
+            Kind::Cowd => 4,
+        }
+    }
+}
+
 /// What a header that passed 1 to 7 says.
 #[derive(Clone, Copy, Debug)]
 pub struct Header {
@@ -45,22 +66,15 @@ const MOST_GRAIN: u64 = 2048;
 
 impl Header {
     pub fn entries_per_table(&self) -> u64 {
-        match self.kind {
-            Kind::Kdmv => 512,
-            Kind::Cowd => 4096,
-        }
+        self.kind.entries_per_table()
     }
 
-    /// Sectors of one table: 4, or 32 for COWD.
     pub fn table_sectors(&self) -> u64 {
-        self.entries_per_table() * 4 / SECTOR
+        self.kind.table_sectors()
     }
 
     pub fn header_sectors(&self) -> u64 {
-        match self.kind {
-            Kind::Kdmv => 1,
-            Kind::Cowd => 4,
-        }
+        self.kind.header_sectors()
     }
 
     pub fn grains(&self) -> u64 {

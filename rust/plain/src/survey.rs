@@ -11,7 +11,7 @@ const ROW_WORDS: usize = 6;
 const TALLY_WORDS: usize = 63;
 
 /// Grains by kind, in a row's order: stored, zero, absent, packed.
-type Counts = [u64; 4];
+pub type Counts = [u64; 4];
 /// An image's row: its counts, and its refusal's number and place.
 type Row = [u64; ROW_WORDS];
 
@@ -69,7 +69,7 @@ fn row(bytes: &[u8]) -> Row {
 }
 
 /// An accepted image's grains, by kind. A directory entry that names no table stands for all its grains.
-fn counts(image: &Image) -> Counts {
+pub fn counts(image: &Image) -> Counts {
     let mut counts = Counts::default();
     let mut add = |entry, grains| match entry {
         Entry::Sector(_) if image.header.packed() => counts[3] += grains,

@@ -1,0 +1,45 @@
+//! Request A9: COWD to KDMV and back. Refusals: the image's check, 23, 27, 44, then 21.
+
+use crate::answers::{refusal, Refusal, Written};
+use crate::check::accept;
+use crate::header::Kind;
+use crate::layout::laid_down;
+use crate::survey::counts;
+use crate::write::{judge_clean, judge_kind, over};
+
+/// The least grain size of KDMV.
+const LEAST_GRAIN: u64 = 8;
+
+/// The public call: a COWD image as document 01's collapsed image. Bytes past the result, or all on a refusal, keep what they
+/// held.
+pub fn to_kdmv(image: &[u8], out: &mut [u8]) -> Written {
+    over(kdmv(image, out.len()), out)
+}
+
+/// The public call: a KDMV image as a COWD normal form. Bytes past the result, or all on a refusal, keep what they held.
+pub fn to_cowd(image: &[u8], out: &mut [u8]) -> Written {
+    over(cowd(image, out.len()), out)
+}
+
+fn kdmv(bytes: &[u8], room: usize) -> Result<Vec<u8>, Refusal> {
+    let image = accept(bytes)?;
+    if image.header.kind != Kind::Cowd {
+        return Err(refusal(23));
+    }
+    judge_clean(&image)?;
+    if image.header.grain_size < LEAST_GRAIN {
+        return Err(refusal(44));
+    }
+    laid_down(&[image], Kind::Kdmv, room)
+}
+
+fn cowd(bytes: &[u8], room: usize) -> Result<Vec<u8>, Refusal> {
+    let image = accept(bytes)?;
+    judge_kind(&image)?;
+    judge_clean(&image)?;
+    let [_, zero, _, _] = counts(&image);
+    if zero != 0 {
+        return Err(refusal(44));
+    }
+    laid_down(&[image], Kind::Cowd, room)
+}

@@ -1,0 +1,46 @@
+//! Both moves, asked with several outputs.
+
+use plain::{check, to_cowd, to_kdmv, Written};
+
+/// Either call.
+pub type Move = fn(&[u8], &mut [u8]) -> Written;
+pub const TO_KDMV: Move = to_kdmv;
+pub const TO_COWD: Move = to_cowd;
+
+/// What outputs hold before a call.
+const HELD: u8 = 0xa5;
+
+/// The result of a move, which is an accepted image: all of it is written where there is just room for it, nothing past it
+/// where there is more, and nothing where a byte of room is missing.
+pub fn moved(way: Move, image: &[u8]) -> Vec<u8> {
+    let mut out = vec![HELD; 1 << 22];
+    let answer = way(image, &mut out);
+    assert_eq!((answer.number, answer.place), (0, 0));
+    let length = answer.length as usize;
+    assert!(out[length..].iter().all(|byte| *byte == HELD));
+    out.truncate(length);
+    for spare in [0, 1, 513] {
+        let mut other = vec![!HELD; length + spare];
+        assert_eq!(way(image, &mut other), answer, "{spare}");
+        assert!(other[..length] == out, "{spare}");
+        assert!(other[length..].iter().all(|byte| *byte == !HELD), "{spare}");
+    }
+    assert_eq!(refused(way, image, length - 1), (21, 0));
+    assert_eq!(check(&out).number, 0);
+    out
+}
+
+/// Number and place of a refusal with this room for the output, no byte of which is written.
+pub fn refused(way: Move, image: &[u8], room: usize) -> (u64, u64) {
+    let mut out = vec![HELD; room];
+    let answer = way(image, &mut out);
+    let expected = Written {
+        number: answer.number,
+        place: answer.place,
+        length: 0,
+    };
+    assert_eq!(answer, expected);
+    assert_ne!(answer.number, 0);
+    assert!(out.iter().all(|byte| *byte == HELD), "a byte was written");
+    (answer.number, answer.place)
+}
