@@ -122,6 +122,18 @@ extern "C" {
         out: *mut u8,
         out_length: usize,
     ) -> Written;
+    pub fn anhkhovet_to_kdmv(
+        image: *const u8,
+        length: usize,
+        out: *mut u8,
+        out_length: usize,
+    ) -> Written;
+    pub fn anhkhovet_to_cowd(
+        image: *const u8,
+        length: usize,
+        out: *mut u8,
+        out_length: usize,
+    ) -> Written;
 }
 
 extern "C" {

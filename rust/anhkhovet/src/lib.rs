@@ -9,7 +9,7 @@
 //! - [`survey`] judges many images and counts their grains.
 //! - [`lookup`] says where a sector comes from, [`chain`] the same for layers on top of each other, and [`read`] hands over
 //!   its bytes.
-//! - [`normal`] and [`collapse`] write an image into memory that is lent.
+//! - [`normal`] and [`collapse`] write an image into memory that is lent; [`to_kdmv`] and [`to_cowd`] write one as the other kind.
 //! - [`mend`] brings the tables of one directory in line with those of its copy, in the lent image, and [`changes`] tells what it
 //!   changed.
 //! - [`descriptor`] reads a descriptor text, and [`find`] says which extent holds a sector; [`split`] says where a sector of a disk of
@@ -20,12 +20,12 @@
 //!
 //! # Stack
 //!
-//! Six calls keep a mark for each of some eight million sectors on the stack: [`check`], and [`survey`], [`normal`],
-//! [`collapse`], [`split`] and [`mend`], which check. A thread that makes one of them needs [`STACK`] bytes for it beside what it
-//! uses itself, or the process ends at the guard below its stack, with nothing overwritten. A main thread has 8 MiB unless
-//! `ulimit -s` says less, and a thread of Rust's 2 MiB unless it is asked for less. Every other call does with less than 16 KiB,
-//! and none of them calls itself: so [`check_in`], which is [`check`] with its marks in a list of the caller's, runs in a small
-//! fixed space.
+//! Eight calls keep a mark for each of some eight million sectors on the stack: [`check`], and [`survey`], [`normal`],
+//! [`collapse`], [`to_kdmv`], [`to_cowd`], [`split`] and [`mend`], which check. A thread that makes one of them needs [`STACK`]
+//! bytes for it beside what it uses itself, or the process ends at the guard below its stack, with nothing overwritten. A main
+//! thread has 8 MiB unless `ulimit -s` says less, and a thread of Rust's 2 MiB unless it is asked for less. Every other call does
+//! with less than 16 KiB, and none of them calls itself: so [`check_in`], which is [`check`] with its marks in a list of the
+//! caller's, runs in a small fixed space.
 //!
 //! # The archive
 //!
@@ -55,7 +55,7 @@ pub use refusal::{ChainRefusal, Counted, MisplacedPart, Refusal};
 pub use sectors::{chain, lookup, read, read_part, Located, Source};
 pub use surveys::{survey, Counts, Survey, Tallied};
 pub use texts::{descriptor, find, Access, Descriptor, Extent, ExtentKind};
-pub use writing::{collapse, normal};
+pub use writing::{collapse, normal, to_cowd, to_kdmv};
 
 /// Bytes of a sector.
 pub const SECTOR: u64 = 512;

@@ -131,6 +131,22 @@ pub fn collapse(lower: &[u8], upper: &[u8], out: &mut [u8]) -> Written {
     }
 }
 
+/// Writes a COWD image as a KDMV one, in normal form, over the start of `out`.
+///
+/// It needs [`STACK`](crate::STACK) bytes of stack.
+pub fn to_kdmv(image: &[u8], out: &mut [u8]) -> Written {
+    // SAFETY: see the top of the file.
+    unsafe { face::anhkhovet_to_kdmv(image.as_ptr(), image.len(), out.as_mut_ptr(), out.len()) }
+}
+
+/// Writes a KDMV image as a COWD one, in normal form, over the start of `out`.
+///
+/// It needs [`STACK`](crate::STACK) bytes of stack.
+pub fn to_cowd(image: &[u8], out: &mut [u8]) -> Written {
+    // SAFETY: see the top of the file.
+    unsafe { face::anhkhovet_to_cowd(image.as_ptr(), image.len(), out.as_mut_ptr(), out.len()) }
+}
+
 /// Reads a descriptor and stores its extents at the start of the lent list.
 pub fn descriptor(text: &[u8], extents: &mut [Extent]) -> Described {
     // SAFETY: see the top of the file.

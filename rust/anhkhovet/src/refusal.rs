@@ -6,8 +6,8 @@ use std::fmt;
 /// A refusal by document 01's rules. Shown, it is its number, its place where that counts something, and a sentence.
 #[derive(Clone, Copy, Debug, PartialEq, Eq, Hash)]
 pub struct Refusal {
-    /// Document 01's number: 1 to 12 of an image, 20 to 24, 27 and 40 of what is asked, 30 to 36 of a text, 38, 39 and 45 of an
-    /// extent.
+    /// Document 01's number: 1 to 12 of an image, 20 to 24, 27, 40 and 44 of what is asked, 30 to 36 of a text, 38, 39 and 45
+    /// of an extent.
     pub number: u64,
     /// The part, the grain or the line at fault, as [`Refusal::counted`] says, else 0.
     pub place: u64,
@@ -139,7 +139,7 @@ impl Refusal {
             20 => "the sector is at or past the end of the disk",
             21 => "the output or the list is too short for the result",
             22 => "the images do not have the same capacity and grain size",
-            23 => "a COWD or compressed image can be neither collapsed nor brought to normal form",
+            23 => "collapse and normal form take no COWD image, a move takes the other kind, and none of them a compressed image",
             24 => "a chain has 1 to 16 layers, a survey 1 to 1,024 images, a disk of several files one for each extent",
             27 => "the disk was still open when it was copied: shut the machine down and copy it again",
             30 => "the first line is not \"# Disk DescriptorFile\"",
@@ -158,6 +158,7 @@ impl Refusal {
                 "the image cannot be mended from that side: it has one directory only, its two directories name tables in \
                  different places, header, footer, directories or tables share a sector, or it would still be refused"
             }
+            44 => "a grain of under 8 sectors has no place in KDMV, and a grain marked as zeros none in COWD",
             45 => "the file is not of its extent's type, or is too short for its sectors",
             _ => "a rule of the format is broken",
         }

@@ -30,6 +30,36 @@ pub fn collapse(lower: &[u8], upper: &[u8], out: &mut [u8]) -> Result<u64, Refus
     length(raw::collapse(lower, upper, out))
 }
 
+/// Writes a COWD image as a KDMV one, in normal form, over the start of `out`, and says how many bytes it has. The bytes after it
+/// keep what they held; after a refusal all do.
+///
+/// Each sector keeps its kind and its bytes. [`to_cowd`] of the result is the COWD normal form of `image`.
+///
+/// Refusals: 1 to 12 as the check has them, 23 for KDMV, 27 where the disk was still open, 44 for a grain size under 8, which KDMV
+/// does not have, 21 where `out` is too short.
+///
+/// It needs [`STACK`](crate::STACK) bytes of stack.
+///
+#[doc = concat!("```\n", include_str!("../examples/to_kdmv.rs"), "```")]
+pub fn to_kdmv(image: &[u8], out: &mut [u8]) -> Result<u64, Refusal> {
+    length(raw::to_kdmv(image, out))
+}
+
+/// Writes a KDMV image as a COWD one, in normal form, over the start of `out`, and says how many bytes it has. The bytes after it
+/// keep what they held; after a refusal all do.
+///
+/// Each sector keeps its kind and its bytes. [`to_kdmv`] of the result is the [`normal`] form of `image`.
+///
+/// Refusals: 1 to 12 as the check has them, 23 for COWD and packed images, 27 where the disk was still open, 44 where a grain is
+/// marked as zeros, which COWD has no entry for, 21 where `out` is too short.
+///
+/// It needs [`STACK`](crate::STACK) bytes of stack.
+///
+#[doc = concat!("```\n", include_str!("../examples/to_cowd.rs"), "```")]
+pub fn to_cowd(image: &[u8], out: &mut [u8]) -> Result<u64, Refusal> {
+    length(raw::to_cowd(image, out))
+}
+
 fn length(written: raw::Written) -> Result<u64, Refusal> {
     Refusal::unless_zero(written.number, written.place)?;
     Ok(written.length)

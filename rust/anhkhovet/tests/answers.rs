@@ -194,7 +194,7 @@ fn words_of_refusals() {
     let numbers = (1..=12)
         .chain(20..=24)
         .chain(30..=36)
-        .chain([27, 38, 39, 40, 45]);
+        .chain([27, 38, 39, 40, 44, 45]);
     let mut sentences: Vec<&str> = numbers
         .map(|number| refused(number, 1).sentence())
         .collect();

@@ -41,4 +41,6 @@ examples! {
     split "split.rs"
     stack "stack.rs"
     survey "survey.rs"
+    to_cowd "to_cowd.rs"
+    to_kdmv "to_kdmv.rs"
 }

@@ -2,7 +2,7 @@
 
 use anhkhovet::{
     chain, check, check_in, collapse, descriptor, find, frame, header, lookup, mend, normal, raw,
-    read, split, survey, words_needed, Side, STACK,
+    read, split, survey, to_cowd, to_kdmv, words_needed, Side, STACK,
 };
 use std::{fs, thread};
 
@@ -39,6 +39,16 @@ fn calls_that_check() {
     on(STACK, move || {
         assert!(normal(&lower, &mut out).is_ok());
         assert!(collapse(&lower, &upper, &mut out).is_ok());
+    });
+}
+
+#[test]
+fn moves() {
+    let (old, young) = (sample("cowd-s001"), sample("tool-base"));
+    let mut out = vec![0; 1 << 20];
+    on(STACK, move || {
+        assert!(to_kdmv(&old, &mut out).is_ok());
+        assert!(to_cowd(&young, &mut out).is_ok());
     });
 }
 

@@ -9,12 +9,25 @@ const JUDGES: &[Call] = &[Check, CheckIn, Header, Frame, Survey];
 const OF_KDMV: &[Call] = &[Check, CheckIn, Header, Frame, Survey, Mend];
 
 /// Calls that judge all parts of an image.
-const OF_PARTS: &[Call] = &[Check, CheckIn, Frame, Survey, Mend, Normal, Collapse, Split];
+const OF_PARTS: &[Call] = &[
+    Check, CheckIn, Frame, Survey, Mend, Normal, Collapse, ToKdmv, ToCowd, Split,
+];
 
 /// The same, and those that judge the directory and the sector's own table alone.
 const OF_TABLES: &[Call] = &[
-    Check, CheckIn, Frame, Survey, Mend, Normal, Collapse, Split, Lookup, Chain,
+    Check, CheckIn, Frame, Survey, Mend, Normal, Collapse, ToKdmv, ToCowd, Split, Lookup, Chain,
 ];
+
+/// The calls that write.
+const WRITES: &[Call] = &[
+    CheckIn, Frame, Survey, Mend, Normal, Collapse, ToKdmv, ToCowd,
+];
+
+/// The calls that write images of clean ones.
+const CLEAN: &[Call] = &[Normal, Collapse, ToKdmv, ToCowd];
+
+/// Both moves.
+const MOVES: &[Call] = &[ToKdmv, ToCowd];
 
 /// Kinds of answers, with the calls that can give them.
 pub const ANSWERS: &[(&str, &[Call])] = &[
@@ -52,15 +65,9 @@ pub const ANSWERS: &[(&str, &[Call])] = &[
     ("refused by the check", &[Frame]),
     ("image of no bytes", &[Survey]),
     ("1,024 images", &[Survey]),
-    (
-        "written, exact room",
-        &[CheckIn, Frame, Survey, Mend, Normal, Collapse],
-    ),
-    (
-        "written, room left",
-        &[CheckIn, Frame, Survey, Mend, Normal, Collapse],
-    ),
-    ("written, grain at 1", &[Normal, Collapse]),
+    ("written, exact room", WRITES),
+    ("written, room left", WRITES),
+    ("written, grain at 1", &[Normal, Collapse, ToCowd]),
     ("described", &[Descriptor]),
     ("described, 32 extents", &[Descriptor]),
     ("found", &[Find]),
@@ -88,11 +95,11 @@ pub const ANSWERS: &[(&str, &[Call])] = &[
     ("27, lower alone", &[Collapse]),
     ("27, upper alone", &[Collapse]),
     ("27, both", &[Collapse]),
-    ("27, other than 1", &[Normal, Collapse]),
-    ("27, 21 too", &[Normal, Collapse]),
-    ("27, room enough", &[Normal, Collapse]),
-    ("8 to 12, 27 too", &[Normal, Collapse]),
-    ("23, 27 too", &[Normal, Collapse]),
+    ("27, other than 1", CLEAN),
+    ("27, 21 too", CLEAN),
+    ("27, room enough", CLEAN),
+    ("8 to 12, 27 too", CLEAN),
+    ("23, 27 too", CLEAN),
     ("22, 27 too", &[Collapse]),
     // Request A6: by the first area that meets an earlier one, by F and the list's length, and by what the list held.
     ("12, directory", &[CheckIn]),
@@ -167,6 +174,29 @@ pub const ANSWERS: &[(&str, &[Call])] = &[
     ("found, 8 with place 3", &[Lookup, Chain, Read]),
     ("found, 8 with place 4", &[Lookup, Chain, Read]),
     ("found, 8 with place 5", &[Lookup, Chain, Read]),
+    // Request A9: by what the image is like, and where two refusals would hold.
+    ("moved, no grain", MOVES),
+    ("moved, order turned", MOVES),
+    ("moved, end in a grain", MOVES),
+    ("moved, stored zeros", MOVES),
+    ("moved, n above 1", MOVES),
+    ("moved, several tables", MOVES),
+    ("moved, no table", MOVES),
+    ("moved, with a gap", MOVES),
+    ("moved, normal form", MOVES),
+    ("23, the other kind", MOVES),
+    ("23, packed", MOVES),
+    ("23, 44 too", &[ToCowd]),
+    ("27, 44 too", MOVES),
+    ("44, 21 too", MOVES),
+    ("44, grain size 1", &[ToKdmv]),
+    ("44, grain size 2", &[ToKdmv]),
+    ("44, grain size 4", &[ToKdmv]),
+    ("44, table entry 1", &[ToCowd]),
+    ("44, directory entry 1", &[ToCowd]),
+    ("44, last grain alone", &[ToCowd]),
+    ("21, a byte short", MOVES),
+    ("21, no grain fits", MOVES),
 ];
 
 /// The refusals of documents 01 and 02, with the calls that can give them, a survey in its rows too; 37 is the program's own.
@@ -183,6 +213,7 @@ pub fn gives(number: u64, call: Call) -> bool {
         Mend => (1..=8).contains(&number) || [21, 40].contains(&number),
         Normal => (1..=12).contains(&number) || [21, 23, 27].contains(&number),
         Collapse => (1..=12).contains(&number) || [21, 22, 23, 27].contains(&number),
+        ToKdmv | ToCowd => (1..=12).contains(&number) || [21, 23, 27, 44].contains(&number),
         Descriptor => (30..=36).contains(&number) || number == 21,
         Find => number == 20,
         Split => {

@@ -10,6 +10,7 @@ mod image;
 mod lists;
 pub mod marks;
 pub mod mends;
+mod moves;
 mod ones;
 pub mod pairs;
 pub mod places;

@@ -140,25 +140,28 @@ impl<'a> Run<'a> {
     }
 
     pub fn normal(&mut self, image: &[u8], room: usize) {
-        self.write(Call::Normal, &[image], room, |side, out| {
+        let number = self.write(Call::Normal, &[image], room, |side, out| {
             side.normal(image, out)
         });
+        self.count_unwritten(Call::Normal, number, &[image], room);
     }
 
     pub fn collapse(&mut self, lower: &[u8], upper: &[u8], room: usize) {
-        self.write(Call::Collapse, &[lower, upper], room, |side, out| {
+        let layers = [lower, upper];
+        let number = self.write(Call::Collapse, &layers, room, |side, out| {
             side.collapse(lower, upper, out)
         });
+        self.count_unwritten(Call::Collapse, number, &layers, room);
     }
 
-    /// Both outputs hold the same pattern before, and are compared byte for byte after.
-    fn write(
+    /// Both outputs hold the same pattern before, and are compared byte for byte after. The number of the answer.
+    pub(crate) fn write(
         &mut self,
         call: Call,
         inputs: &[&[u8]],
         room: usize,
         with: impl Fn(&dyn Side, &mut [u8]) -> plain::Written,
-    ) {
+    ) -> u64 {
         for out in &mut self.outs {
             out.clear();
             while out.len() < room {
@@ -172,9 +175,8 @@ impl<'a> Run<'a> {
         self.compare(call, [&tested, &plain], lent, inputs, &room);
         if plain.number != 0 {
             self.tally.refused(call, plain.number, plain.place);
-            self.count_unwritten(call, plain.number, inputs, room);
             self.count_layer(call, plain, inputs);
-            return;
+            return plain.number;
         }
         let exact = plain.length == room as u64;
         let rows = [
@@ -190,6 +192,12 @@ impl<'a> Run<'a> {
                 self.tally.answered(call, row);
             }
         }
+        0
+    }
+
+    /// What the plain side wrote, of the last answer with number 0: an image, whose length is the room or less.
+    pub(crate) fn written(&self) -> &[u8] {
+        &self.outs[1]
     }
 
     pub fn descriptor(&mut self, text: &[u8], list: &[Extent]) {

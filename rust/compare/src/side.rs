@@ -23,6 +23,8 @@ pub trait Side {
     fn mend(&self, image: &mut [u8], good: u64, changes: &mut [u64]) -> Mended;
     fn normal(&self, image: &[u8], out: &mut [u8]) -> Written;
     fn collapse(&self, lower: &[u8], upper: &[u8], out: &mut [u8]) -> Written;
+    fn to_kdmv(&self, image: &[u8], out: &mut [u8]) -> Written;
+    fn to_cowd(&self, image: &[u8], out: &mut [u8]) -> Written;
     fn descriptor(&self, text: &[u8], list: &mut [Extent]) -> Described;
     fn find(&self, list: &[Extent], sector: u64) -> Found;
     fn split(&self, text: &[u8], files: &[u8], lengths: &[u64], sector: u64) -> Located;
@@ -70,6 +72,12 @@ impl Side for Plain {
     }
     fn collapse(&self, lower: &[u8], upper: &[u8], out: &mut [u8]) -> Written {
         plain::over(plain::collapse(lower, upper, out.len()), out)
+    }
+    fn to_kdmv(&self, image: &[u8], out: &mut [u8]) -> Written {
+        plain::to_kdmv(image, out)
+    }
+    fn to_cowd(&self, image: &[u8], out: &mut [u8]) -> Written {
+        plain::to_cowd(image, out)
     }
     fn descriptor(&self, text: &[u8], list: &mut [Extent]) -> Described {
         let (described, extents) = plain::descriptor(text, list.len());
@@ -139,6 +147,12 @@ mod proved {
         }
         fn collapse(&self, lower: &[u8], upper: &[u8], out: &mut [u8]) -> Written {
             same!(raw::collapse(lower, upper, out) => Written { number, place, length })
+        }
+        fn to_kdmv(&self, image: &[u8], out: &mut [u8]) -> Written {
+            same!(raw::to_kdmv(image, out) => Written { number, place, length })
+        }
+        fn to_cowd(&self, image: &[u8], out: &mut [u8]) -> Written {
+            same!(raw::to_cowd(image, out) => Written { number, place, length })
         }
         fn descriptor(&self, text: &[u8], list: &mut [Extent]) -> Described {
             let mut records: Vec<Record> = list.iter().map(record).collect();

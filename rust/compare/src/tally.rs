@@ -17,6 +17,8 @@ pub enum Call {
     Mend,
     Normal,
     Collapse,
+    ToKdmv,
+    ToCowd,
     Descriptor,
     Find,
     Split,
@@ -24,7 +26,7 @@ pub enum Call {
 
 use Call::*;
 
-const CALLS: [(Call, &str); 14] = [
+const CALLS: [(Call, &str); 16] = [
     (Check, "check"),
     (CheckIn, "check_in"),
     (Header, "header"),
@@ -36,6 +38,8 @@ const CALLS: [(Call, &str); 14] = [
     (Mend, "mend"),
     (Normal, "normal"),
     (Collapse, "collapse"),
+    (ToKdmv, "to_kdmv"),
+    (ToCowd, "to_cowd"),
     (Descriptor, "descriptor"),
     (Find, "find"),
     (Split, "split"),

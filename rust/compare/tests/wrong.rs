@@ -5,6 +5,7 @@ mod frames;
 mod marks;
 mod mends;
 mod miscounts;
+mod moves;
 mod ones;
 mod places;
 mod splits;
@@ -57,6 +58,7 @@ enum Mistake {
     Marks(marks::Mistake),
     Frames(frames::Mistake),
     Mends(mends::Mistake),
+    Moves(moves::Mistake),
 }
 
 use Mistake::*;
@@ -207,6 +209,14 @@ impl Side for Mistake {
         }
     }
 
+    fn to_kdmv(&self, image: &[u8], out: &mut [u8]) -> Written {
+        self.move_wrongly(false, image, out)
+    }
+
+    fn to_cowd(&self, image: &[u8], out: &mut [u8]) -> Written {
+        self.move_wrongly(true, image, out)
+    }
+
     fn descriptor(&self, text: &[u8], list: &mut [Extent]) -> Described {
         let mut described = Plain.descriptor(text, list);
         let past = described.number == 0 && *self == RecordPastTheLast;
@@ -257,6 +267,7 @@ fn each_mistake_is_caught() {
     let others = others.chain(marks::ALL.map(Marks));
     let others = others.chain(frames::ALL.map(Frames));
     let others = others.chain(mends::ALL.iter().copied().map(Mends));
+    let others = others.chain(moves::ALL.iter().copied().map(Moves));
     for mistake in ALL.into_iter().chain(others) {
         // Few cases catch most, and as many as the gate runs the others.
         let caught = |count| {
@@ -274,15 +285,13 @@ fn the_plain_side_agrees_with_itself_and_reaches_every_place() {
     assert!(tally.good(), "{tally}");
 }
 
+/// Sectors marked are those of frame and lookups, mending that of frame and check, moves those of check and lookups.
 #[test]
-fn sectors_marked_are_those_of_frame_and_lookups() {
-    assert_eq!(
-        tally(&Marks(marks::Mistake::Recounted), 50_000).differences,
-        0
-    );
-}
-
-#[test]
-fn mending_made_anew_agrees() {
-    assert_eq!(tally(&Mends(mends::Mistake::Remade), 50_000).differences, 0);
+fn what_is_made_anew_agrees() {
+    let marks = Marks(marks::Mistake::Recounted);
+    let mends = Mends(mends::Mistake::Remade);
+    let moves = Moves(moves::Mistake::Remade);
+    for remade in [moves, marks, mends] {
+        assert_eq!(tally(&remade, 50_000).differences, 0, "{remade:?}");
+    }
 }

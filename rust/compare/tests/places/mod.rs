@@ -54,9 +54,11 @@ const ALL: [(Mistake, &[Call]); 16] = [
     (UpperFirst, &[Collapse]),
 ];
 
-const OF_PARTS: &[Call] = &[Check, CheckIn, Frame, Survey, Mend, Normal, Collapse, Split];
+const OF_PARTS: &[Call] = &[
+    Check, CheckIn, Frame, Survey, Mend, Normal, Collapse, ToKdmv, ToCowd, Split,
+];
 const OF_TABLES: &[Call] = &[
-    Check, CheckIn, Frame, Survey, Mend, Normal, Collapse, Split, Lookup, Chain,
+    Check, CheckIn, Frame, Survey, Mend, Normal, Collapse, ToKdmv, ToCowd, Split, Lookup, Chain,
 ];
 
 impl Mistake {
@@ -224,6 +226,18 @@ impl Side for Wrong {
         let plain = Plain.normal(image, out);
         let place = self.place(plain.number, plain.place, image);
         self.told(Normal, plain, Written { place, ..plain })
+    }
+
+    fn to_kdmv(&self, image: &[u8], out: &mut [u8]) -> Written {
+        let plain = Plain.to_kdmv(image, out);
+        let place = self.place(plain.number, plain.place, image);
+        self.told(ToKdmv, plain, Written { place, ..plain })
+    }
+
+    fn to_cowd(&self, image: &[u8], out: &mut [u8]) -> Written {
+        let plain = Plain.to_cowd(image, out);
+        let place = self.place(plain.number, plain.place, image);
+        self.told(ToCowd, plain, Written { place, ..plain })
     }
 
     fn collapse(&self, lower: &[u8], upper: &[u8], out: &mut [u8]) -> Written {

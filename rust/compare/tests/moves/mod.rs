@@ -1,0 +1,213 @@
+//! Mistakes of the moves, in one that is made anew from the plain side's check and lookups.
+
+mod laid;
+
+use crate::miscounts::directory;
+use compare::side::{Plain, Side};
+use plain::{Written, ABSENT, STORED, ZERO};
+
+/// Each of them but the first.
+macro_rules! mistakes {
+    ($($name:ident)*) => {
+        #[derive(Clone, Copy, Debug, PartialEq)]
+        pub enum Mistake {
+            /// None.
+            Remade,
+            $($name,)*
+        }
+
+        use Mistake::*;
+
+        pub const ALL: &[Mistake] = &[$($name),*];
+    };
+}
+
+mistakes! {
+    KindBeforeTheCheck PlaceDropped KindItselfTaken PackedAfterOpen OpenMoved OpenOfLowByte OpenAfterZeros
+    SizesMoved Size4Moved ZeroAsAbsent ZeroAsStored ZeroAsOne ZerosOfDirectoryMoved LastGrainUnasked ZeroRefusedInKdmv
+    RoomBefore44 RoomBefore27 ByteMore ByteLess
+    RoundedInCowd NotRoundedInKdmv Turned AsTheyStand OneTableOnly TablesOfTheOther
+    PastCapacityCopied LastGrainShort BlankAsAbsent
+    LengthLeftOut LengthInBytes LengthOfTheFront FlagsLeftOut CountOfTheOther NewlineLeftOut DirtyKept
+    LengthInSectors WrittenOn44 WrittenOn27 ByteOnRefusal RestCleared
+}
+
+/// More grains than this are not looked up one by one.
+const MOST: u64 = 6000;
+
+/// What one grain is: its kind, the sector that it stands at, and its bytes below capacity.
+pub struct Grain {
+    kind: u64,
+    sector: u64,
+    bytes: Vec<u8>,
+}
+
+impl crate::Mistake {
+    /// A move to COWD, or to KDMV.
+    pub fn move_wrongly(&self, cowd: bool, image: &[u8], out: &mut [u8]) -> Written {
+        match self {
+            crate::Mistake::Moves(mistake) => mistake.write(cowd, image, out),
+            _ => plain_move(cowd, image, out),
+        }
+    }
+}
+
+impl Mistake {
+    fn write(self, cowd: bool, image: &[u8], out: &mut [u8]) -> Written {
+        let cowd = cowd != (self == Turned);
+        let verdict = Plain.check(image);
+        let head = Plain.header(image);
+        if verdict.number == 0 && head.capacity / head.grain_size >= MOST {
+            return plain_move(cowd, image, out);
+        }
+        if self == KindBeforeTheCheck && is_cowd(image) == cowd && verdict.number > 2 {
+            return refused(23, 0);
+        }
+        if verdict.number != 0 {
+            self.spill(verdict.number, &[1], out);
+            let place = match self {
+                PlaceDropped => 0,
+                _ => verdict.place,
+            };
+            return refused(verdict.number, place);
+        }
+        let grains = self.grains(image);
+        let result = self.laid(cowd, image, &grains);
+        let number = self.judge(cowd, image, &grains, result.len(), out.len());
+        if number != 0 {
+            self.spill(number, &result, out);
+            return refused(number, 0);
+        }
+        let written = result.len().min(out.len());
+        out[..written].copy_from_slice(&result[..written]);
+        if self == RestCleared {
+            out[written..].fill(0);
+        }
+        let unit = if self == LengthInSectors { 512 } else { 1 };
+        Written {
+            length: result.len() as u64 / unit,
+            ..Written::default()
+        }
+    }
+
+    /// What the mistake writes on a refusal.
+    fn spill(self, number: u64, result: &[u8], out: &mut [u8]) {
+        let spilled = match (self, number) {
+            (WrittenOn44, 44) | (WrittenOn27, 27) => result.len().min(out.len()),
+            (ByteOnRefusal, _) => out.len().min(1),
+            _ => 0,
+        };
+        out[..spilled].copy_from_slice(&result[..spilled]);
+    }
+
+    /// 23, 27, 44 and 21, in the mistake's order, of an accepted image.
+    fn judge(self, cowd: bool, image: &[u8], grains: &[Grain], needed: usize, room: usize) -> u64 {
+        let short = match self {
+            ByteMore => room <= needed,
+            ByteLess => room + 1 < needed,
+            _ => room < needed,
+        };
+        let open = match self {
+            OpenMoved => false,
+            OpenOfLowByte => Plain.header(image).dirty % 256 != 0,
+            _ => Plain.header(image).dirty != 0,
+        };
+        let kind = is_cowd(image) == cowd && self != KindItselfTaken;
+        let packed = !is_cowd(image) && image[77] == 1;
+        let mut faults = vec![
+            (23, kind || packed),
+            (27, open),
+            (44, self.unmovable(cowd, image, grains)),
+            (21, short),
+        ];
+        match self {
+            PackedAfterOpen if !kind => faults.swap(0, 1),
+            OpenAfterZeros | RoomBefore44 => {
+                let first = if self == RoomBefore44 { 2 } else { 1 };
+                faults.swap(first, first + 1);
+            }
+            RoomBefore27 => faults.swap(1, 3),
+            _ => {}
+        }
+        let first = faults.iter().find(|(_, holds)| *holds);
+        first.map_or(0, |(number, _)| *number)
+    }
+
+    /// Whether it is refused 44.
+    fn unmovable(self, cowd: bool, image: &[u8], grains: &[Grain]) -> bool {
+        let grain_size = Plain.header(image).grain_size;
+        let least = match self {
+            SizesMoved => 1,
+            Size4Moved => 4,
+            _ => 8,
+        };
+        let asked = match self {
+            ZeroAsAbsent | ZeroAsStored | ZeroAsOne => &[],
+            LastGrainUnasked => &grains[..grains.len() - 1],
+            _ => grains,
+        };
+        let in_directory = |g: usize| self == ZerosOfDirectoryMoved && named_by_directory(image, g);
+        let mut asked = asked.iter().enumerate();
+        let zero = asked.any(|(g, grain)| grain.kind == ZERO && !in_directory(g));
+        grain_size < least || (zero && (cowd || self == ZeroRefusedInKdmv))
+    }
+
+    /// Each grain of an accepted image, as the mistake takes it.
+    fn grains(self, image: &[u8]) -> Vec<Grain> {
+        let head = Plain.header(image);
+        let (capacity, size) = (head.capacity, head.grain_size);
+        let grains = (0..capacity).step_by(size as usize);
+        let taken = grains.map(|first| {
+            let located = Plain.lookup(image, first);
+            let below = size.min(capacity - first);
+            let sectors = match self {
+                PastCapacityCopied => size,
+                LastGrainShort if below < size => below - 1,
+                _ => below,
+            };
+            let from = located.sector as usize * 512;
+            let bytes = match located.kind {
+                STORED => image[from..from + sectors as usize * 512].to_vec(),
+                _ => Vec::new(),
+            };
+            let kind = match (self, located.kind) {
+                (ZeroAsAbsent, ZERO) => ABSENT,
+                (ZeroAsStored, ZERO) => STORED,
+                (BlankAsAbsent, STORED) if bytes.iter().all(|byte| *byte == 0) => ABSENT,
+                (_, kind) => kind,
+            };
+            Grain {
+                kind,
+                sector: located.sector,
+                bytes,
+            }
+        });
+        taken.collect()
+    }
+}
+
+fn is_cowd(image: &[u8]) -> bool {
+    image.starts_with(b"COWD")
+}
+
+/// Whether a grain of an accepted KDMV image is zero by its directory entry.
+fn named_by_directory(image: &[u8], grain: usize) -> bool {
+    let at = directory(image) + grain / 512 * 4;
+    image[at..at + 4] == [1, 0, 0, 0]
+}
+
+fn plain_move(cowd: bool, image: &[u8], out: &mut [u8]) -> Written {
+    if cowd {
+        Plain.to_cowd(image, out)
+    } else {
+        Plain.to_kdmv(image, out)
+    }
+}
+
+fn refused(number: u64, place: u64) -> Written {
+    Written {
+        number,
+        place,
+        length: 0,
+    }
+}
