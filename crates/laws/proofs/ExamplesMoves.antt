@@ -33,8 +33,8 @@ one (suc (suc g)) = absent
 
 -- a COWD header of a grain size and a dirty number
 abbrev cowd : ℕ → ℕ → Header
-cowd size told =
-    cowdHeader (record { version = 1; capacity = 16; «grain_size» = size; directory = 4; «directory_entries» = 1; dirty = told })
+cowd size n =
+    cowdHeader (record { version = 1; capacity = 16; «grain_size» = size; directory = 4; «directory_entries» = 1; dirty = n })
 
 -- ---- answers
 abbrev answers : List (Example CollapseAnswer)
