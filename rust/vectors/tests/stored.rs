@@ -24,7 +24,7 @@ fn stored_files() {
 #[test]
 fn small_input() {
     let input = std::fs::read(root().join("crates/cases/stdin")).unwrap();
-    assert!(input.len() <= 2_250_000, "{} bytes", input.len());
+    assert!(input.len() <= 2_450_000, "{} bytes", input.len());
 }
 
 /// The stored surveys have images of each refusal number of the check.
@@ -112,6 +112,14 @@ fn every_refusal() {
         (
             "collapse",
             check.iter().copied().chain([21, 22, 23, 27]).collect(),
+        ),
+        (
+            "to_kdmv",
+            check.iter().copied().chain([21, 23, 27, 44]).collect(),
+        ),
+        (
+            "to_cowd",
+            check.iter().copied().chain([21, 23, 27, 44]).collect(),
         ),
         ("descriptor", [0, 21].into_iter().chain(30..=35).collect()),
         ("find", vec![0, 20]),

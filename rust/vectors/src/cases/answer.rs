@@ -1,10 +1,10 @@
 //! The lines that the program prints for a case: a call and the numbers of its answer.
 
-use super::{Case, CHAIN, CHECK_IN, COLLAPSE, FIND, FRAME, IMAGE, MEND, SPLIT, SURVEY, TEXT};
+use super::{Case, CHAIN, CHECK_IN, COLLAPSE, FIND, FRAME, IMAGE, MEND, MOVE, SPLIT, SURVEY, TEXT};
 use super::{MOST_ROWS, MOST_WORDS, SEARCHED, SHORT, SHORT_TALLY, TALLY};
 use crate::input::Input;
 use crate::numbers::{described, digest, extent, found, handed_over, line, located};
-use plain::{Extent, Refusal};
+use plain::{Extent, Refusal, Written};
 
 impl Case {
     pub fn lines(&self) -> Vec<String> {
@@ -16,6 +16,10 @@ impl Case {
             SURVEY => self.survey_lines(),
             CHECK_IN => vec![self.check_in_line()],
             MEND => vec![self.mend_line()],
+            MOVE => vec![
+                self.moved_line("to_kdmv ", plain::to_kdmv),
+                self.moved_line("to_cowd ", plain::to_cowd),
+            ],
             _ => Vec::new(),
         };
         for sector in &self.sectors {
@@ -79,10 +83,18 @@ impl Case {
         results.map(|one| self.written_line(call, one)).collect()
     }
 
-    /// The answer of a call that writes, and the digest of the whole output, whose bytes were 170 before.
     fn written_line(&self, call: &str, result: Result<Vec<u8>, Refusal>) -> String {
+        self.output_line(call, |out| plain::over(result, out))
+    }
+
+    fn moved_line(&self, call: &str, way: fn(&[u8], &mut [u8]) -> Written) -> String {
+        self.output_line(call, |out| way(&self.bytes, out))
+    }
+
+    /// The answer of a call that writes, and the digest of the whole output, whose bytes were 170 before.
+    fn output_line(&self, call: &str, write: impl FnOnce(&mut [u8]) -> Written) -> String {
         let mut out = vec![170; self.room as usize];
-        let w = plain::over(result, &mut out);
+        let w = write(&mut out);
         line(call, &[w.number, w.place, w.length, digest(&out)])
     }
 

@@ -1,7 +1,7 @@
 //! Which cases are stored: real images from samples, and generated ones that reach each answer of each call.
 
 use super::record::Recorder;
-use super::{Case, CHECK_IN, FIND, FRAME, IMAGE, MEND, MOST_WORDS, SPLIT, SURVEY, TEXT};
+use super::{Case, CHECK_IN, FIND, FRAME, IMAGE, MEND, MOST_WORDS, MOVE, SPLIT, SURVEY, TEXT};
 use compare::cases::case;
 use compare::marks::that_meets;
 use compare::mends::rows;
@@ -9,12 +9,12 @@ use compare::rng::Rng;
 use compare::run::Run;
 use compare::side::Plain;
 use compare::tally::Call;
-use plain::Mended;
+use plain::{Mended, STORED};
 use std::collections::BTreeMap;
 use std::io;
 use std::path::{Path, PathBuf};
 
-const SEED: u64 = 25;
+const SEED: u64 = 21;
 /// How many of the generators' cases are tried.
 const TRIED: u64 = 32_000;
 /// The program's limits.
@@ -87,7 +87,7 @@ fn wanted(case: &Case, answer: &str) -> u64 {
         (true, _) => 15,
         // By its place one is enough.
         _ if answer.contains(" 8 at ") => 1,
-        (false, _) if [SURVEY, SPLIT, CHECK_IN, MEND].contains(&case.asked) => 1,
+        (false, _) if [SURVEY, SPLIT, CHECK_IN, MEND, MOVE].contains(&case.asked) => 1,
         (false, true) => 2,
         // By all its groups, by its dirty number, or at sector 1, one is enough.
         (false, false) if case.asked == FRAME || answer.ends_with("at 1") => 1,
@@ -117,7 +117,12 @@ fn is_short(case: &Case) -> bool {
 
 /// Whether a case is one for the program, and small enough to be stored.
 fn fits(case: &Case) -> bool {
-    let most = if is_short(case) { 4 << 10 } else { 20 << 10 };
+    let most = match case.asked {
+        TEXT | FIND => 4 << 10,
+        // A COWD image with a grain of 8 sectors.
+        MOVE => 24 << 10,
+        _ => 20 << 10,
+    };
     let short = case.lengths.len() <= MOST_LAYERS && case.room <= MOST_ROOM;
     // The program lends no longer list.
     let cut = case.asked == MEND && case.lengths[1] > MOST_WORDS as u64;
@@ -173,6 +178,12 @@ fn kind(case: &Case, line: &str) -> String {
             format!("{call} {number} {} {cowd} {at_1}", words[4])
         }
         "chain" | "split" => format!("{call} {number} {}", words[4]),
+        "to_kdmv" | "to_cowd" if number == "0" => moved(case, call, words[3]),
+        "to_kdmv" | "to_cowd" if number == "44" => {
+            // By the grain size, or by a zero grain.
+            let grain_size = plain::header(&case.bytes).grain_size;
+            format!("{call} {number} {grain_size}")
+        }
         "normal" | "collapse" if number == "0" => {
             // By its length too, since the shortest results have no grain.
             let length: u64 = words[3].parse().unwrap_or(0);
@@ -199,6 +210,15 @@ fn kind(case: &Case, line: &str) -> String {
         "normal" | "collapse" | "descriptor" | "find" => format!("{call} {number}"),
         _ => format!("{call} {number} {cowd}"),
     }
+}
+
+/// What kind of a move's answer it is: by the room, by whether a grain is stored, and whether capacity ends inside a grain.
+fn moved(case: &Case, call: &str, length: &str) -> String {
+    let head = plain::header(&case.bytes);
+    let whole = head.capacity % head.grain_size == 0;
+    let stored = plain::lookup(&case.bytes, head.capacity - 1).kind == STORED;
+    let exact = length == case.room.to_string();
+    format!("{call} 0 {exact} {stored} {whole}")
 }
 
 /// What kind of answer of the check in a list it is: by footer, redundant directory and room, by the area that meets, by what

@@ -35,6 +35,8 @@ const CHECK_IN: u64 = 9;
 /// Mending of a copy of the bytes, whose length is the room. The first length names the good side, and the list has as many words
 /// as the second says, `MOST_WORDS` at most.
 const MEND: u64 = 10;
+/// Both moves, each into an output whose length is the room.
+const MOVE: u64 = 11;
 
 const SEARCHED: usize = 32;
 const MOST_WORDS: usize = 96;

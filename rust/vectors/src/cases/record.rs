@@ -1,8 +1,8 @@
 //! The generators of `compare`, listened to: a side that keeps what it is asked and answers as the plain one does.
 
 use super::{
-    Case, CHAIN, CHECK_IN, COLLAPSE, FIND, FRAME, IMAGE, MEND, SEARCHED, SHORT, SHORT_TALLY, SPLIT,
-    SURVEY, TEXT,
+    Case, CHAIN, CHECK_IN, COLLAPSE, FIND, FRAME, IMAGE, MEND, MOVE, SEARCHED, SHORT, SHORT_TALLY,
+    SPLIT, SURVEY, TEXT,
 };
 use crate::numbers::extent;
 use compare::side::{Plain, Side};
@@ -140,6 +140,14 @@ impl Side for Recorder {
             ..Case::default()
         });
         Plain.collapse(lower, upper, out)
+    }
+    fn to_kdmv(&self, image: &[u8], out: &mut [u8]) -> Written {
+        self.lent(MOVE, image, out.len());
+        Plain.to_kdmv(image, out)
+    }
+    fn to_cowd(&self, image: &[u8], out: &mut [u8]) -> Written {
+        self.lent(MOVE, image, out.len());
+        Plain.to_cowd(image, out)
     }
     fn descriptor(&self, text: &[u8], list: &mut [Extent]) -> Described {
         self.keep(Case {
