@@ -30,6 +30,7 @@ pub enum Task {
     Collapse(Vec<PathBuf>, Target),
     Normal(PathBuf, Target),
     Mend(mend::Asked),
+    Move(Vec<PathBuf>, Target),
     Describe(PathBuf, Option<u64>),
 }
 
@@ -82,6 +83,7 @@ fn task(name: &str, given: &ArgMatches) -> Option<Task> {
             target: target(),
             all: given.get_flag("all"),
         }),
+        "move" => Task::Move(files, target()?),
         "describe" => Task::Describe(files.into_iter().next()?, sector()),
         _ => return None,
     })
@@ -98,13 +100,13 @@ fn misused(task: &Task) -> Option<&'static str> {
         Task::Check(files) | Task::Survey(files) => files,
         Task::Map(files) | Task::Digest(files, _) => files,
         Task::Sector(files, _) | Task::Read(files, ..) | Task::Compare(files, _) => files,
-        Task::Collapse(files, _) => files,
+        Task::Collapse(files, _) | Task::Move(files, _) => files,
         Task::Normal(file, _) => std::slice::from_ref(file),
         Task::Mend(asked) => std::slice::from_ref(&asked.file),
         Task::Describe(..) => &[],
     };
     let output = match task {
-        Task::Collapse(_, to) | Task::Normal(_, to) => Some(to),
+        Task::Collapse(_, to) | Task::Normal(_, to) | Task::Move(_, to) => Some(to),
         Task::Mend(asked) => asked.target.as_ref(),
         _ => None,
     };

@@ -75,7 +75,9 @@ pub fn command() -> Command {
                 .help("Answer with one JSON object")
                 .action(ArgAction::SetTrue),
         );
-    mending(writing(describing(digesting(reading(judging(command))))))
+    moving(mending(writing(describing(digesting(reading(judging(
+        command,
+    )))))))
 }
 
 fn judging(command: Command) -> Command {
@@ -187,5 +189,18 @@ fn mending(command: Command) -> Command {
             .arg(output("The file to write; without it nothing is written", false))
             .arg(force())
             .arg(flag("all", "List every change")),
+    )
+}
+
+fn moving(command: Command) -> Command {
+    command.subcommand(
+        subcommand("move")
+            .about("Writes COWD images as KDMV, and KDMV images as COWD, with the digest of their sectors")
+            .arg(files("The images, which are only read; each is moved to the other kind"))
+            .arg(output(
+                "The file to write, or a folder for files of the same names; each appears when it is whole",
+                true,
+            ))
+            .arg(force()),
     )
 }

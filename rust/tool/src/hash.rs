@@ -118,6 +118,21 @@ impl<'a> Hasher<'a> {
         }
     }
 
+    /// Adds the bytes of a piece that is not packed to a hash of more.
+    pub fn add(&mut self, piece: &Piece, hash: &mut Sha256) -> Result<(), Failure> {
+        match &piece.content {
+            Content::Zeros => {
+                self.buffer.clear();
+                self.buffer.resize((piece.sectors * SECTOR) as usize, 0);
+                hash.update(&self.buffer);
+            }
+            Content::Open(place) | Content::Packed(place) => {
+                hash.update(self.read(place.file, &place.bytes)?)
+            }
+        }
+        Ok(())
+    }
+
     fn of_zeros(&mut self, length: u64) -> Hash {
         if self.zeros.0 != length {
             self.zeros = (length, Sha256::digest(vec![0; length as usize]).into());

@@ -5,6 +5,7 @@ use crate::failure::Failure;
 use crate::files::Layers;
 use crate::guard::Watch;
 use crate::mapping::Mapping;
+use crate::room::Kind;
 use anhkhovet::{Refusal, SECTOR};
 
 pub struct Lent {
@@ -31,7 +32,7 @@ impl Lent {
     }
 }
 
-// SAFETY for both: what the library decides by is in the frame, which nobody changes (`crates/laws`: images that agree there have
+// SAFETY for all: what the library decides by is in the frame, which nobody changes (`crates/laws`: images that agree there have
 // the same check, lookups and length). A grain's bytes go to the output whatever they are, and of that nothing is read.
 
 /// The length of what was written.
@@ -42,4 +43,13 @@ pub fn normal(image: &Lent, output: &mut Mapping) -> Result<u64, Refusal> {
 /// The length of what was written.
 pub fn collapse(lower: &Lent, upper: &Lent, output: &mut Mapping) -> Result<u64, Refusal> {
     unsafe { anhkhovet::collapse(lower.map.bytes(), upper.map.bytes(), output.bytes_mut()) }
+}
+
+/// The length of what was written.
+pub fn moved(kind: Kind, image: &Lent, output: &mut Mapping) -> Result<u64, Refusal> {
+    let (image, output) = unsafe { (image.map.bytes(), output.bytes_mut()) };
+    match kind {
+        Kind::Kdmv => anhkhovet::to_kdmv(image, output),
+        Kind::Cowd => anhkhovet::to_cowd(image, output),
+    }
 }

@@ -39,6 +39,7 @@ mod mapping;
 mod member;
 mod mend;
 mod mended;
+mod moves;
 mod named;
 mod names;
 mod output;
@@ -78,6 +79,7 @@ fn run(task: Task, json: bool) -> Result<(), Failure> {
         Task::Collapse(files, target) => write::collapse(&files, &target, json),
         Task::Normal(file, target) => write::normal(&file, &target, json),
         Task::Mend(asked) => mend::mend(&asked, json),
+        Task::Move(files, target) => moves::run(&files, &target, json),
         Task::Describe(file, sector) => describe::describe(&file, sector, json),
     }
 }

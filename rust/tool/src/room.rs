@@ -1,4 +1,4 @@
-//! How long the result of `normal` and `collapse` is: docs/COLLAPSE.md has the layout.
+//! How long the result of `normal`, `collapse` and `move` is: docs/COLLAPSE.md has the layouts.
 
 use crate::cores;
 use crate::failure::Failure;
@@ -13,8 +13,33 @@ fn up(number: u64, by: u64) -> u64 {
     (number + by - 1) / by
 }
 
-/// Images that are accepted and alike, lowest first.
+/// What an image is written as.
+#[derive(Clone, Copy, Debug, PartialEq, Eq)]
+pub enum Kind {
+    Kdmv,
+    Cowd,
+}
+
+impl Kind {
+    pub fn word(self) -> &'static str {
+        match self {
+            Kind::Kdmv => "KDMV",
+            Kind::Cowd => "COWD",
+        }
+    }
+
+    /// Sectors of the header and of a table.
+    fn parts(self) -> (u64, u64) {
+        match self {
+            Kind::Kdmv => (1, 4),
+            Kind::Cowd => (4, 32),
+        }
+    }
+}
+
+/// Images that are accepted and alike, lowest first, and what is made of them.
 pub struct Room<'a> {
+    pub kind: Kind,
     pub disk: Disk,
     pub images: &'a [&'a [u8]],
 }
@@ -24,12 +49,18 @@ impl Room<'_> {
         up(self.disk.capacity, self.disk.grain_size)
     }
 
-    /// Header, directory and tables, then the stored grains.
+    /// Header, directory and tables, then the stored grains: in KDMV from a multiple of their size on.
     fn length(&self, stored: u64) -> u64 {
         let size = self.disk.grain_size;
-        let tables = up(self.disk.capacity, 512 * size);
-        let start = up(1 + up(tables * 4, SECTOR) + 4 * tables, size);
-        SECTOR * size * (start + stored)
+        let (header, table) = self.kind.parts();
+        // 128 entries fill a sector.
+        let tables = up(self.disk.capacity, 128 * table * size);
+        let end = header + up(tables * 4, SECTOR) + table * tables;
+        let start = match self.kind {
+            Kind::Kdmv => up(end, size) * size,
+            Kind::Cowd => end,
+        };
+        SECTOR * (start + size * stored)
     }
 
     /// The most that it can be: every sector of the images a stored grain's.
@@ -82,9 +113,9 @@ mod tests {
     }
 
     /// What the library then writes has the length that was counted.
-    fn right(images: &[&[u8]], written: Result<u64, anhkhovet::Refusal>) {
+    fn right(kind: Kind, images: &[&[u8]], written: Result<u64, anhkhovet::Refusal>) {
         let disk = anhkhovet::check(images[0]).expect("accepted");
-        let room = Room { disk, images };
+        let room = Room { kind, disk, images };
         assert_eq!(room.counted().expect("counted"), written.expect("written"));
         assert!(room.most() >= written.expect("written"));
     }
@@ -94,10 +125,15 @@ mod tests {
         let chain = ["tool-base.vmdk", "tool-middle.vmdk", "tool-top.vmdk"].map(sample);
         let mut out = vec![0; 1 << 24];
         for lower in &chain {
-            right(&[lower], anhkhovet::normal(lower, &mut out));
+            right(Kind::Kdmv, &[lower], anhkhovet::normal(lower, &mut out));
             for upper in &chain {
-                right(&[lower, upper], anhkhovet::collapse(lower, upper, &mut out));
+                let written = anhkhovet::collapse(lower, upper, &mut out);
+                right(Kind::Kdmv, &[lower, upper], written);
             }
         }
+        let written = anhkhovet::to_cowd(&chain[0], &mut out);
+        right(Kind::Cowd, &[&chain[0]], written);
+        let old = sample("cowd-s001.vmdk");
+        right(Kind::Kdmv, &[&old], anhkhovet::to_kdmv(&old, &mut out));
     }
 }

@@ -11,7 +11,7 @@ use crate::names::{name, put_name};
 use crate::output::{Mapped, Output};
 use crate::print;
 use crate::progress::Progress;
-use crate::room::Room;
+use crate::room::{Kind, Room};
 use crate::still_open::{still_open, STILL_OPEN};
 use serde_json::json;
 use std::path::{Path, PathBuf};
@@ -25,10 +25,11 @@ pub fn refusal(asked: Result<u64, anhkhovet::Refusal>) -> Option<anhkhovet::Refu
 }
 
 /// An output for what is made of these images, lowest first, which are not refused.
-fn mapped(output: Output, images: &[&Layers]) -> Result<Mapped, Failure> {
+pub fn mapped(kind: Kind, output: Output, images: &[&Layers]) -> Result<Mapped, Failure> {
     let bytes: Vec<&[u8]> = images.iter().map(|image| image.bytes(0)).collect();
     let header = anhkhovet::header(bytes[0]).map_err(Failure::refused(images[0].path(0)))?;
     let room = Room {
+        kind,
         disk: header.disk,
         images: &bytes,
     };
@@ -62,7 +63,7 @@ pub fn normal(path: &Path, target: &Target, json: bool) -> Result<(), Failure> {
         image.same()?;
         return Err(Failure::refused(path)(why));
     }
-    let mut mapped = mapped(output, &[&image])?;
+    let mut mapped = mapped(Kind::Kdmv, output, &[&image])?;
     let written = lent::normal(&Lent::of(&image)?, &mut mapped.map);
     image.same()?;
     let length = written.map_err(Failure::refused(path))?;
@@ -123,7 +124,7 @@ fn judged(images: &mut [Layers]) -> Result<(), Failure> {
 
 /// Two images in one, which is not finished.
 fn merged(lower: &Layers, upper: &Layers, output: Output) -> Result<(Output, u64), Failure> {
-    let mut mapped = mapped(output, &[lower, upper])?;
+    let mut mapped = mapped(Kind::Kdmv, output, &[lower, upper])?;
     let written = lent::collapse(&Lent::of(lower)?, &Lent::of(upper)?, &mut mapped.map);
     lower.same()?;
     upper.same()?;

@@ -105,6 +105,11 @@ fn normal() {
 }
 
 #[test]
+fn moves() {
+    holds(&["move", "disk"], 0);
+}
+
+#[test]
 fn mend() {
     holds(&["mend", "disk", "--good", "primary"], 1 << 26);
 }

@@ -22,6 +22,7 @@ fn readers(odd: &str) -> Vec<Vec<&str>> {
         vec!["normal", odd, "-o", "out"],
         vec!["mend", odd, "--good", "primary"],
         vec!["mend", odd, "--good", "primary", "-o", "out"],
+        vec!["move", odd, "-o", "out"],
         vec!["collapse", odd, IMAGE, "-o", "out"],
         vec!["collapse", IMAGE, odd, "-o", "out"],
         vec!["collapse", IMAGE, IMAGE, odd, "-o", "out"],

@@ -17,7 +17,7 @@ use std::process::{Child, Stdio};
 use std::thread::sleep;
 use std::time::{Duration, Instant};
 
-const COMMANDS: [&[&str]; 9] = [
+const COMMANDS: [&[&str]; 10] = [
     &["check", "it"],
     &["sector", "it", "0"],
     &["read", "it", "0"],
@@ -25,6 +25,7 @@ const COMMANDS: [&[&str]; 9] = [
     &["digest", "it"],
     &["normal", "it", "-o", "out"],
     &["mend", "it", "--good", "primary", "-o", "out"],
+    &["move", "it", "-o", "out"],
     &["collapse", "it", "it", "-o", "out"],
     &["describe", "it"],
 ];

@@ -20,6 +20,7 @@ fn writers() -> Vec<Vec<&'static str>> {
         vec!["read", CHAIN[0], "2", "--force", "-o"],
         vec!["normal", CHAIN[0], "--force", "-o"],
         vec!["mend", CHAIN[0], "--good", "redundant", "--force", "-o"],
+        vec!["move", CHAIN[0], "--force", "-o"],
         [&["collapse"], &CHAIN[..], &["--force", "-o"]].concat(),
     ]
 }

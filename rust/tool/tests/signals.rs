@@ -250,6 +250,7 @@ fn a_signal_at_any_time() {
         vec!["read", "tool-base.vmdk", "2", "-o", "out"],
         vec!["normal", "tool-base.vmdk", "-o", "out"],
         vec!["mend", "tool-base.vmdk", "--good", "primary", "-o", "out"],
+        vec!["move", "tool-base.vmdk", "-o", "out"],
         [&["collapse"], &CHAIN[..], &["-o", "out"]].concat(),
     ];
     for words in commands {

@@ -9,6 +9,8 @@ mod common;
 mod dirty;
 #[path = "common/disks.rs"]
 mod disks;
+#[path = "common/labs.rs"]
+mod labs;
 #[path = "common/mends.rs"]
 mod mends;
 #[path = "common/outside.rs"]
@@ -93,6 +95,7 @@ fn transcript(name: &str) {
     disks::add(&folder);
     dirty::add(&folder);
     mends::add(&folder);
+    labs::add(&folder);
     outside::add(&folder);
     add_files(&folder);
 
@@ -136,5 +139,5 @@ macro_rules! transcripts {
 }
 
 transcripts!(
-    check survey sector read map digest collapse normal describe refusals outside split still_open mend
+    check survey sector read map digest collapse normal describe refusals outside split still_open mend moves
 );

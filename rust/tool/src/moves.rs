@@ -1,0 +1,233 @@
+//! `move`: images written as the other kind, and the digest of all sectors of each result.
+
+use crate::cli::Target;
+use crate::failure::{Failure, Refusal, Status};
+use crate::files::Layers;
+use crate::given::Given;
+use crate::hash::{digits, Hasher, Piece};
+use crate::hint::hinted;
+use crate::lent::{self, Lent};
+use crate::names::{name, put_name};
+use crate::output::Output;
+use crate::print;
+use crate::progress::Progress;
+use crate::room::Kind;
+use crate::write::{mapped, refusal};
+use anhkhovet::Source;
+use serde_json::{json, Value};
+use sha2::{Digest, Sha256};
+use std::collections::BTreeSet;
+use std::path::{Path, PathBuf};
+
+const NOT_TAKEN: u64 = 23;
+const NOT_MOVABLE: u64 = 44;
+
+const NO_FOLDER: &str = "is not a folder that is there, and several files are to be written";
+const ONE_NAME: &str =
+    "has the name of another one of the files, and both would be written to one output";
+
+/// What was written.
+struct Moved {
+    kind: Kind,
+    length: u64,
+    /// SHA-256 of all sectors in order, absent ones as zeros.
+    digest: String,
+}
+
+/// By the file's own kind. What is neither is refused by either call.
+fn way(image: &[u8]) -> Kind {
+    if image.starts_with(b"COWD") {
+        Kind::Kdmv
+    } else {
+        Kind::Cowd
+    }
+}
+
+/// Why an image is not moved, asked with no output at all.
+fn judged(image: &mut Layers, kind: Kind) -> Result<(), Failure> {
+    let asked = image.ask(0, |bytes| match kind {
+        Kind::Kdmv => anhkhovet::to_kdmv(bytes, &mut []),
+        Kind::Cowd => anhkhovet::to_cowd(bytes, &mut []),
+    })?;
+    let why = match refusal(asked) {
+        Some(why) => why,
+        None => return Ok(()),
+    };
+    let mut refusal = Refusal::new(why, Some(image.path(0)));
+    refusal.detail = match why.number {
+        NOT_TAKEN => "it is compressed".to_string(),
+        NOT_MOVABLE => unmovable(image.bytes(0)),
+        _ => String::new(),
+    };
+    image.same()?;
+    Err(Failure::Refused(refusal))
+}
+
+/// What of an accepted image the other kind has no place for.
+fn unmovable(image: &[u8]) -> String {
+    let disk = match anhkhovet::header(image) {
+        Ok(header) => header.disk,
+        Err(_) => return String::new(),
+    };
+    let size = disk.grain_size;
+    let mut grains = (0..disk.capacity).step_by(size as usize);
+    match grains.find(|first| anhkhovet::lookup(image, *first) == Ok(Source::Zero)) {
+        Some(first) => format!("grain {} is marked as zeros", first / size),
+        None => format!("its grain size is {size}"),
+    }
+}
+
+/// The digest of an image's sectors in order, as a raw disk of them would have it.
+fn digest(image: Layers) -> Result<String, Failure> {
+    let mut given = Given::Layers(image);
+    let cut = given.grains()?;
+    let files = given.files();
+    let mut hasher = Hasher::new(&files);
+    let mut hash = Sha256::new();
+    let mut first = 0;
+    while first < cut.capacity() {
+        let sectors = cut.around(first).end - first;
+        hasher.add(&Piece::of(&mut given, first, sectors)?, &mut hash)?;
+        first += sectors;
+    }
+    given.same()?;
+    let digits = digits(&hash.finalize().into());
+    Ok(digits.iter().map(|&digit| char::from(digit)).collect())
+}
+
+/// One image, of all that are read.
+fn moved(path: &Path, target: &Target, inputs: &[PathBuf]) -> Result<Moved, Failure> {
+    let mut image = Layers::one(path)?;
+    let output = Output::create(target, inputs)?;
+    let kind = way(image.bytes(0));
+    judged(&mut image, kind)?;
+    let mut mapped = mapped(kind, output, &[&image])?;
+    let written = lent::moved(kind, &Lent::of(&image)?, &mut mapped.map);
+    image.same()?;
+    let length = written.map_err(Failure::refused(path))?;
+    let output = mapped.cut(length)?;
+    let digest = digest(Layers::of_file(&target.path, output.file()?)?)?;
+    output.finish()?;
+    Ok(Moved {
+        kind,
+        length,
+        digest,
+    })
+}
+
+impl Moved {
+    fn line(&self, path: &Path, to: &Path) -> String {
+        let (kind, length, digest) = (self.kind.word(), self.length, &self.digest);
+        let (from, to) = (name(path), name(to));
+        format!("{from}: moved to {kind}: {to}, {length} bytes, its sectors' digest {digest}\n")
+    }
+
+    fn object(&self, path: &Path, to: &Path) -> Value {
+        let mut object = json!({
+            "kind": self.kind.word(),
+            "length": self.length,
+            "digest": self.digest,
+        });
+        put_name(&mut object, "file", path);
+        put_name(&mut object, "output", to);
+        object
+    }
+}
+
+pub fn run(paths: &[PathBuf], target: &Target, json: bool) -> Result<(), Failure> {
+    let folder = target.path.is_dir();
+    match paths {
+        [path] if !folder => one(path, target, json),
+        _ if !folder => Err(Failure::Misused(target.path.clone(), NO_FOLDER)),
+        _ => Folder::of(paths, target)?.each(json),
+    }
+}
+
+fn one(path: &Path, target: &Target, json: bool) -> Result<(), Failure> {
+    let progress = Progress::start("moving", 0);
+    let moved = moved(path, target, &[path.to_path_buf()])?;
+    drop(progress);
+    print::answer(
+        json,
+        || moved.line(path, &target.path),
+        || moved.object(path, &target.path),
+    )
+}
+
+/// Files that go to a folder under their own names.
+struct Folder<'a> {
+    paths: &'a [PathBuf],
+    targets: Vec<Target>,
+}
+
+impl Folder<'_> {
+    fn of<'a>(paths: &'a [PathBuf], folder: &Target) -> Result<Folder<'a>, Failure> {
+        let mut names = BTreeSet::new();
+        let mut targets = Vec::new();
+        for path in paths {
+            // A path without a last name is no file's, and is told so when it is opened.
+            let name = path.file_name().unwrap_or_default();
+            if !names.insert(name) {
+                return Err(Failure::Misused(path.clone(), ONE_NAME));
+            }
+            targets.push(Target {
+                path: folder.path.join(name),
+                force: folder.force,
+            });
+        }
+        Ok(Folder { paths, targets })
+    }
+
+    /// Each file, whatever is wrong with another; the worst status of all.
+    fn each(&self, json: bool) -> Result<(), Failure> {
+        let mut worst = None;
+        if json {
+            print::members(|all| {
+                all.list("files", |take| {
+                    self.taken(&mut worst, |path, to, moved| match moved {
+                        Ok(moved) => take(&moved.object(path, to)),
+                        Err(failure) => {
+                            let mut object = failure.json();
+                            put_name(&mut object, "file", path);
+                            take(&object)
+                        }
+                    })
+                })
+            })?;
+        } else {
+            let mut count = 0;
+            self.taken(&mut worst, |path, to, moved| {
+                let line = moved.map(|moved| moved.line(path, to));
+                count += u64::from(line.is_ok());
+                line.map_or(Ok(()), |line| print::text(&line))
+            })?;
+            print::text(&format!("{count} of {} files moved\n", self.paths.len()))?;
+        }
+        worst.map_or(Ok(()), |status| Err(Failure::Told(status)))
+    }
+
+    /// Hands over what became of each file; a failure is noted too.
+    fn taken(
+        &self,
+        worst: &mut Option<Status>,
+        mut take: impl FnMut(&Path, &Path, Result<Moved, Failure>) -> Result<(), Failure>,
+    ) -> Result<(), Failure> {
+        for (number, (path, target)) in self.paths.iter().zip(&self.targets).enumerate() {
+            let doing = format!(
+                "moving {} of {}: {}",
+                number + 1,
+                self.paths.len(),
+                name(path)
+            );
+            let progress = Progress::start(&doing, 0);
+            let moved = moved(path, target, self.paths).map_err(hinted);
+            drop(progress);
+            if let Err(failure) = &moved {
+                print::note(&failure.to_string());
+                *worst = (*worst).max(Some(failure.status()));
+            }
+            take(path, &target.path, moved)?;
+        }
+        Ok(())
+    }
+}
