@@ -51,7 +51,7 @@ impl Layers {
 }
 
 /// The result's size in MiB: a GiB where memory allows for five times that, layers, results and files together.
-fn size(setup: &Setup) -> u64 {
+pub fn size(setup: &Setup) -> u64 {
     let meminfo = std::fs::read_to_string("/proc/meminfo").unwrap_or_default();
     let free = meminfo.lines().find_map(|line| {
         let value = line.strip_prefix("MemAvailable:")?;

@@ -17,6 +17,7 @@ mod machine;
 mod map;
 mod marks;
 mod mend;
+mod moves;
 mod qemu;
 mod report;
 mod side;
@@ -33,7 +34,7 @@ use std::process::exit;
 
 /// Inputs depend on it alone.
 const SEED: u64 = 7;
-const CALLS: [&str; 9] = [
+const CALLS: [&str; 10] = [
     "check",
     "marks",
     "copies",
@@ -42,6 +43,7 @@ const CALLS: [&str; 9] = [
     "lookup",
     "chain",
     "collapse",
+    "moves",
     "descriptor",
 ];
 /// Not among them: it needs the tool, built, and measures a disk too.
@@ -153,6 +155,9 @@ fn run(quick: bool, calls: &[String]) -> Result<Report, Box<dyn Error>> {
     if wanted("collapse") {
         collapse::measure(&setup, &mut report)?;
     }
+    if wanted("moves") {
+        moves::measure(&setup, &mut report)?;
+    }
     if wanted("descriptor") {
         descriptor::measure(&setup, &mut report)?;
     }
@@ -180,6 +185,8 @@ fn a_quick_run_has_rows_for_every_call() -> Outcome {
         "lookup",
         "chain lookup",
         "collapse",
+        "move to COWD",
+        "move to KDMV",
         "descriptor",
     ] {
         assert!(table.contains(&format!("| {call} |")), "{call}");

@@ -41,6 +41,14 @@ mod proved {
         same!(raw::collapse(lower, upper, out) => Written { number, place, length })
     }
 
+    pub fn to_kdmv(image: &[u8], out: &mut [u8]) -> Written {
+        same!(raw::to_kdmv(image, out) => Written { number, place, length })
+    }
+
+    pub fn to_cowd(image: &[u8], out: &mut [u8]) -> Written {
+        same!(raw::to_cowd(image, out) => Written { number, place, length })
+    }
+
     pub fn describe(text: &[u8]) -> (Described, Vec<Extent>) {
         let mut records = [raw::Extent::default(); plain::MOST_EXTENTS];
         let described = raw::descriptor(text, &mut records);
@@ -53,7 +61,9 @@ mod proved {
 }
 
 #[cfg(feature = "proved")]
-pub use proved::{chain, check, check_in, collapse, describe, lookup, mend, survey};
+pub use proved::{
+    chain, check, check_in, collapse, describe, lookup, mend, survey, to_cowd, to_kdmv,
+};
 
 #[cfg(not(feature = "proved"))]
 mod stand_in {
@@ -70,6 +80,6 @@ mod stand_in {
 
 #[cfg(not(feature = "proved"))]
 pub use {
-    plain::{chain, check, check_in, lookup, mend, survey},
+    plain::{chain, check, check_in, lookup, mend, survey, to_cowd, to_kdmv},
     stand_in::{collapse, describe},
 };
