@@ -24,7 +24,7 @@ macro_rules! mistakes {
 
 mistakes! {
     KindBeforeTheCheck PlaceDropped KindItselfTaken PackedAfterOpen OpenMoved OpenOfLowByte OpenAfterZeros
-    SizesMoved Size4Moved ZeroAsAbsent ZeroAsStored ZeroAsOne ZerosOfDirectoryMoved LastGrainUnasked ZeroRefusedInKdmv
+    SizesMoved Size4Moved ZeroAsAbsent ZeroAsStored ZeroAsOne ZerosOfDirectoryMoved LastGrainUnasked
     RoomBefore44 RoomBefore27 ByteMore ByteLess
     RoundedInCowd NotRoundedInKdmv Turned AsTheyStand OneTableOnly TablesOfTheOther
     PastCapacityCopied LastGrainShort BlankAsAbsent
@@ -149,7 +149,7 @@ impl Mistake {
         let in_directory = |g: usize| self == ZerosOfDirectoryMoved && named_by_directory(image, g);
         let mut asked = asked.iter().enumerate();
         let zero = asked.any(|(g, grain)| grain.kind == ZERO && !in_directory(g));
-        grain_size < least || (zero && (cowd || self == ZeroRefusedInKdmv))
+        grain_size < least || (zero && cowd)
     }
 
     /// Each grain of an accepted image, as the mistake takes it.
