@@ -4,22 +4,20 @@ use Prim.Native.Nat.{ℕ, _/_, _%_, _≤_, _<_}
 use mathlib.Core.Path.{_≡_, refl, sym, ap, _∙_}
 use mathlib.Core.List.{List}
 use mathlib.Core.Bool.{Bool, true, false, not, true≢false}
-use native.Mathlib.Omega.{arith}
-use lib.Dec.{ltb, eqb}
+use lib.Dec.{ltb}
 use lib.ListN.{length}
-use borrow.Author.Tests.{ltb-false, le-ltb}
-use Rattle.base.specs.Pick.{pick}
+use borrow.Author.Tests.{ltb-false}
 use Rattle.base.proofs.Steps.{or-no}
 use Rattle.base.specs.Numbers.{leAt}
 use Rattle.format.specs.Geometry.{fileSectors, grains}
 use Rattle.format.specs.Header.{kdmvHeader, cowdHeader, headerOf}
-use Rattle.format.specs.Entries.{meaning, inTable, entryOfGrain, grainEntry, anyBelow}
+use Rattle.format.specs.Entries.{grainEntry}
 use Rattle.format.specs.Accepted.{Capacity, GrainSize, Accepted}
 use Rattle.format.specs.Accepted.Accepted.{kdmv, cowd}
-use Rattle.format.specs.Grains.{Grain, absent, zeroed, stored, grainFrom}
+use Rattle.format.specs.Grains.{grainFrom}
 use Rattle.format.specs.Layout.{Fits, layoutAs, lengthAs}
-use Rattle.format.specs.Collapse.{mapOf, normalForm, stillOpen}
-use Rattle.format.specs.Moves.{formAs, isKind, notTaken, saysZero, zeroGrain, anyZero, zeroLost, notMovable}
+use Rattle.format.specs.Collapse.{mapOf, normalForm}
+use Rattle.format.specs.Moves.{formAs, isKind, notTaken, saysZero, zeroGrain, zeroLost}
 use Rattle.format.specs.declared.Kind.{Kind}
 use Rattle.format.specs.declared.Kind.the-variants.{Kdmv, Cowd}
 use Rattle.format.specs.declared.Header.{Header}
@@ -30,6 +28,7 @@ use Rattle.format.proofs.Grains.{grain-whole}
 use Rattle.format.proofs.Entries.{some-no, no-some}
 use Rattle.format.proofs.HeaderJudged.{kdmv-is, cowd-is}
 use Rattle.laws.specs.Layers.{SameGrains}
+use Rattle.laws.proofs.EntryOne.{no-zero-grain}
 use Rattle.laws.specs.MovedImages.{Held, opposite, Movable, SameSector}
 use Rattle.laws.proofs.LayoutNumbers.{Sizes, some-size}
 use Rattle.laws.proofs.LayoutParts.{layout-length}
@@ -53,25 +52,12 @@ held-entry s c size g Absent w = refl
 held-entry s c size g Zero w = absurd w
 held-entry s c size g (Sector e) w = refl
 
--- where entry 1 is a sector, no entry says zero
-either-no : (b : Bool) (e : ℕ) → saysZero (pick b Absent (Sector e)) ≡ false
-unfolding saysZero pick
-either-no true e = refl
-either-no false e = refl
-
-no-zero : (e : ℕ) → saysZero (meaning false e) ≡ false
-unfolding meaning pick
-no-zero e = either-no (eqb e 0) e
-
-in-table : (s : List ℕ) (k : ℕ) (d : Entry) → saysZero d ≡ false → saysZero (inTable s false k d) ≡ false
-unfolding inTable saysZero
-in-table s k Absent q = refl
-in-table s k Zero q = q
-in-table s k (Sector t) q = no-zero _
-
-grain-no-zero : (s : List ℕ) (perTable directory g : ℕ) → saysZero (entryOfGrain s false perTable directory g) ≡ false
-unfolding entryOfGrain
-grain-no-zero s perTable directory g = in-table s (g % perTable) _ (no-zero _)
+-- an entry that is not zero does not say so
+not-zero : (e : Entry) → (e ≡ Zero → ⊥) → saysZero e ≡ false
+unfolding saysZero
+not-zero Absent n = refl
+not-zero Zero n = absurd (n refl)
+not-zero (Sector e) n = refl
 
 -- ---- an image that has a layout of a kind: accepted, uncompressed, its sizes KDMV's, and each grain one that the kind has
 record Formed (kind : Kind) (s : List ℕ) : Type 0 where
@@ -158,7 +144,7 @@ module _ (kind : Kind) {s : List ℕ} (p : Movable kind s) where
 says-none : (kind : Kind) {s : List ℕ} → Movable kind s → (g : ℕ)
     → g < grains (headerOf s .capacity) (headerOf s .«grain_size») → zeroGrain s (headerOf s) g ≡ false
 says-none Kdmv {s} p g h =
-    rw (cowd-one s (p .accepted) (not-no _ (kinds Kdmv p .0))) (grain-no-zero s _ _ g)
+    not-zero _ (no-zero-grain s (headerOf s) (cowd-one s (p .accepted) (not-no _ (kinds Kdmv p .0))) g)
 says-none Cowd {s} p g h = some-no (zeroGrain s (headerOf s)) _ (fit Cowd p .1) g h
 
 formed : (other kind : Kind) {s : List ℕ} → Movable kind s → Formed other s
@@ -240,7 +226,7 @@ cowd-and-back p = there-and-back Kdmv p
 pub kdmv-and-back : {s : List ℕ} → Movable Cowd s → formAs Kdmv (formAs Cowd s) ≡ normalForm s
 kdmv-and-back p = there-and-back Cowd p
 
--- at offset 28 of a COWD normal form stands the file's length in sectors
+-- at offset 28 of what a move to COWD writes stands the file's length in sectors
 pub sectors-told : {s : List ℕ} → Movable Cowd s → leAt (formAs Cowd s) 28 4 ≡ fileSectors (formAs Cowd s)
 sectors-told {s} p =
     let f = formed Cowd Cowd p in
