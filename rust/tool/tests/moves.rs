@@ -11,7 +11,9 @@ use image::{Image, GRAIN};
 use labs::{lab, raw};
 use serde_json::Value;
 use sha2::{Digest, Sha256};
+use std::ffi::OsStr;
 use std::fs;
+use std::os::unix::ffi::OsStrExt;
 use std::os::unix::fs::symlink;
 
 const SAMPLES: [&str; 5] = [
@@ -101,7 +103,7 @@ fn the_digest_is_that_of_the_raw_disk() {
     assert_eq!(said["digest"], hash(&raw(7)));
     let back = told(&folder, "move --json out -o back");
     assert_eq!(back["digest"], said["digest"]);
-    let line = format!("cowd-s001.vmdk: moved to KDMV: new, 20480 bytes, its sectors' digest ");
+    let line = "cowd-s001.vmdk: moved to KDMV: new, 20480 bytes, its sectors' digest ";
     // As qemu-img reads it: samples/cowd.vmdk.raw.sha256 has the only part of the raw disk.
     let stored = fs::read_to_string(common::sample("cowd.vmdk.raw.sha256")).expect("a digest");
     let digest = stored.split_whitespace().last().expect("a digest");
@@ -235,7 +237,30 @@ fn refusals_tell_why() {
     assert!(!folder.at("out").exists());
 }
 
-/// A disk of 8 GiB with few grains takes no longer than its grains and its digest do, and no more room.
+/// Nothing of a name acts on a terminal; in JSON it is itself, or its bytes stand beside it.
+#[test]
+fn names_as_they_are_told() {
+    let folder = folder(0..0);
+    let odd = OsStr::from_bytes(b"bell\x07\xff");
+    fs::write(folder.path().join(odd), lab(5, 8)).expect("written");
+    let moved = |more: &[&str]| {
+        let mut command = common::tool(folder.path());
+        command
+            .arg("move")
+            .arg(odd)
+            .args(["-o", "moved", "--force"]);
+        let ran = common::Ran::of(command.args(more).output().expect("the tool starts"));
+        ran.well().text()
+    };
+    let line = "bell\\x07\\xff: moved to KDMV: moved/bell\\x07\\xff, 12288 bytes, ";
+    assert!(moved(&[]).starts_with(line));
+    let said: Value = serde_json::from_str(&moved(&["--json"])).expect("an object");
+    assert_eq!(said["files"][0]["file_bytes"], "62656c6c07ff");
+    assert_eq!(said["files"][0]["output_bytes"], "6d6f7665642f62656c6c07ff");
+    assert!(fs::metadata(folder.at("moved").join(odd)).is_ok());
+}
+
+/// A disk of 1 GiB with few grains takes no longer than its grains and its digest do, and no more room.
 #[test]
 fn a_long_disk() {
     let folder = Folder::in_memory();

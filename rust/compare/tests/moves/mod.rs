@@ -114,7 +114,7 @@ impl Mistake {
         };
         let kind = is_cowd(image) == cowd && self != KindItselfTaken;
         let packed = !is_cowd(image) && image[77] == 1;
-        let mut faults = vec![
+        let mut faults = [
             (23, kind || packed),
             (27, open),
             (44, self.unmovable(cowd, image, grains)),
