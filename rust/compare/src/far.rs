@@ -3,7 +3,8 @@
 use crate::image::put;
 use crate::rng::Rng;
 use crate::run::Run;
-use crate::{frames, marks, splits, surveys};
+use crate::tally::Call;
+use crate::{frames, marks, moves, splits, surveys};
 
 /// The longest image, in sectors.
 pub const MOST: u64 = (1 << 23) + (1 << 12);
@@ -91,6 +92,9 @@ fn far_case(run: &mut Run, memory: &mut [u8], rng: &mut Rng) {
     let cut = rng.pick(&[0, 1, 512, 1 << 32]);
     surveys::ask(run, rng, image, &[image.len() as u64 - cut, cut]);
     splits::ask(run, rng, image, capacity);
+    for call in [Call::ToKdmv, Call::ToCowd] {
+        moves::ask(run, rng, call, image);
+    }
     for (at, size) in touched {
         memory[at..at + size].fill(0);
     }

@@ -7,6 +7,7 @@ use crate::rng::Rng;
 use crate::run::Run;
 use crate::tally::Call;
 use plain::{Written, ZERO};
+use std::borrow::Cow;
 
 impl Run<'_> {
     pub fn to_kdmv(&mut self, image: &[u8], room: usize) {
@@ -176,10 +177,9 @@ fn unmoved(call: Call, refused: u64, image: &[u8], room: usize) -> Rows {
     let dirty = head.dirty != 0;
     let cowd = image.starts_with(b"COWD");
     let packed = !cowd && refused == 23 && number(image, 77, 2) == 1;
-    let clean = if [23, 27].contains(&refused) {
-        answer(call, &cleaned(image), room)
-    } else {
-        Written::default()
+    let clean = match refused {
+        27 => answer(call, &cleaned(image), room),
+        _ => Written::default(),
     };
     let unmovable = head.grain_size < 8 || (call == Call::ToCowd && zeros(image) > 0);
     vec![
@@ -241,9 +241,9 @@ pub fn result(call: Call, image: &[u8]) -> Option<Vec<u8>> {
     let grains = (head.capacity - 1) / head.grain_size + 1;
     let stored = (grains * head.grain_size * 512).min(image.len() as u64);
     let mut out = vec![0; (stored + (4096 << 9)) as usize];
-    let clean = match head.dirty {
+    let clean: Cow<[u8]> = match head.dirty {
         0 => image.into(),
-        _ => cleaned(image),
+        _ => cleaned(image).into(),
     };
     let written = into(call, &clean, &mut out);
     out.truncate(written.length as usize);

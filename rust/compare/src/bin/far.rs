@@ -18,6 +18,8 @@ fn main() {
         Call::Read,
         Call::Frame,
         Call::Survey,
+        Call::ToKdmv,
+        Call::ToCowd,
         Call::Split,
     ];
     let folder = std::env::temp_dir().join("anhkhovet-differences");
