@@ -50,7 +50,7 @@ unfolding lengthsOf endToEnd lengthsSum
 lengths-sum [] = refl
 lengths-sum (s ∷ l) = rw (length-append, lengths-sum l)
 
-every-at : {P : List ℕ → Type 0} (l : List (List ℕ)) → Every P l → (k : ℕ) → k < length l → P (getD l k [])
+pub every-at : {P : List ℕ → Type 0} (l : List (List ℕ)) → Every P l → (k : ℕ) → k < length l → P (getD l k [])
 every-at [] none k h = absurd (omega arith)
 every-at (s ∷ l) (more p e) zero h = p
 every-at (s ∷ l) (more p e) (suc k) h = every-at l e k (omega arith)

@@ -57,6 +57,9 @@ pub mod MendedList
 pub mod MendedAgain
 pub mod NothingToMend
 pub mod ExamplesMend
+pub mod CoverageSectors
+pub mod CoverageChain
+pub mod CoverageCounts
 pub mod StillOpenAnswer
 pub mod NeverUsed
 pub mod NeverUsedCollapse

@@ -6,6 +6,7 @@ pub mod NeverUsed
 pub mod Unused
 pub mod StillOpen
 pub mod Mended
+pub mod Coverage
 pub mod Images
 pub mod FirstMeeting
 pub mod Misplaced
