@@ -62,14 +62,14 @@ module _ (s lengths : List ℕ) (x k sector : ℕ) where
   abbrev answer : ChainAnswer
   answer = Found (record { layer = k; source = Stored sector })
 
-  record Walked (n : ℕ) : Type 0 where
+  record ToldBelow (n : ℕ) : Type 0 where
     pub inside : k < n
     pub above : (j : ℕ) → k < j → j < n → sectorLookup (layerAt s lengths j) x ≡ foundIn Absent
     pub own : sectorLookup (layerAt s lengths k) x ≡ foundIn (Stored sector)
 
   -- layer n told, or nothing there and told below
   step : (n : ℕ) (a : LookupAnswer) (below : ChainAnswer) → sectorLookup (layerAt s lengths n) x ≡ a
-      → unlessAbsent n a below ≡ answer → (below ≡ answer → Walked n) → Walked (suc n)
+      → unlessAbsent n a below ≡ answer → (below ≡ answer → ToldBelow n) → ToldBelow (suc n)
   unfolding unlessAbsent
   step n (refusedIn r) below is e down = let z : _≡_ {A = ℕ} 0 1 = cc in absurd (omega arith)
   step n (foundIn Absent) below is e down =
@@ -93,14 +93,14 @@ module _ (s lengths : List ℕ) (x k sector : ℕ) where
   step n (foundIn (Packed marker size o)) below is e down =
       let other = source-of e in let z : _≡_ {A = ℕ} 0 1 = cc in absurd (omega arith)
 
-  walked : (n : ℕ) → walkDown s lengths x n ≡ answer → Walked n
+  walked : (n : ℕ) → walkDown s lengths x n ≡ answer → ToldBelow n
   unfolding walkDown
   walked zero e = let other = source-of e in let z : _≡_ {A = ℕ} 0 1 = cc in absurd (omega arith)
   walked (suc n) e = step n (sectorLookup (layerAt s lengths n) x) (walkDown s lengths x n) refl e (walked n)
 
   -- it is what a chain lookup comes to
   chain-past : chainLookup s lengths x ≡ answer
-      → (x < headerOf (layerAt s lengths 0) .capacity) × (Walked (length lengths))
+      → (x < headerOf (layerAt s lengths 0) .capacity) × (ToldBelow (length lengths))
   unfolding chainLookup walk
   chain-past e =
       let a = found-past (lengthsBroken 16 s lengths) _ _ _ _ e in

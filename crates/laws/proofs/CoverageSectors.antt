@@ -1,7 +1,7 @@
 -- Two different virtual sectors never come from the same sector of the same layer, since no file sector lies in two areas. Two
 -- packed grains never share a byte, for the same reason.
 use Prim.Native.Nat.{ℕ, _+_, _/_, _%_, _≤_, _<_}
-use mathlib.Core.Path.{_≡_, sym, ap, _∙_}
+use mathlib.Core.Path.{_≡_, sym, _∙_}
 use mathlib.Core.List.{List}
 use mathlib.Core.Bool.{true}
 use mathlib.Core.Logic.{⊎-elim}
@@ -9,23 +9,19 @@ use native.Mathlib.Omega.{arith}
 use native.Mathlib.Nat.{div-add-mod', mod-lt}
 use Rattle.base.specs.Pick.{pick}
 use Rattle.base.proofs.Steps.{lt-or-ge}
-use Rattle.format.specs.Header.{headerOf, grainsOf, judge}
+use Rattle.format.specs.Header.{headerOf, grainsOf}
 use Rattle.format.specs.Entries.{grainSectors}
 use Rattle.format.specs.Areas.{grainArea, areas, holders}
 use Rattle.format.specs.Frame.{frameAreas}
 use Rattle.format.specs.Check.{check}
-use Rattle.format.specs.Judged.{Sound, Passed}
 use Rattle.format.specs.declared.Header.{Header}
 use Rattle.format.specs.declared.Entry.the-variants.{Sector}
-use Rattle.format.specs.declared.HeaderAnswer.the-variants.{Known}
 use Rattle.format.specs.declared.CheckAnswer.the-variants.{Accepted}
-use Rattle.format.proofs.Areas.{meet-apart}
 use Rattle.format.proofs.Geometry.{grain-of}
-use Rattle.format.proofs.HeaderJudged.{judged-header}
-use Rattle.format.proofs.HeaderSound.{sound-of}
 use Rattle.format.proofs.Held.{held-row, held-rows, held-named}
-use Rattle.format.proofs.Passed.{header-passed, layout-passed}
 use Rattle.format.proofs.ReadAlike.{holders-areas}
+use Rattle.laws.proofs.AcceptedImage.{accepted-sound}
+use Rattle.laws.proofs.ServedSectors.{Good, accepted-good}
 use Rattle.laws.specs.Coverage.{Uncompressed, ownEntry, ComesFrom, PayloadByte}
 
 -- ---- one accepted image
@@ -33,17 +29,8 @@ module _ (s : List ℕ) (c size : ℕ) (e : check s ≡ Accepted c size) where
   abbrev h : Header
   h = headerOf s
 
-  known : judge s ≡ Known h
-  known =
-      let k = header-passed s (judge s) c size e in k .1 ∙ ap Known (judged-header s (k .0) (k .1))
-
-  passed : Passed s h c size
-  passed =
-      let k = header-passed s (judge s) c size e in
-      rw (← judged-header s (k .0) (k .1)) (layout-passed s (k .0) c size (k .2))
-
-  sound : Sound h
-  sound = sound-of s h known
+  good : Good s h
+  good = accepted-good s (accepted-sound s c size e .0)
 
   -- sector x lies in the area of grain g
   abbrev In : ℕ → ℕ → Type 0
@@ -55,7 +42,7 @@ module _ (s : List ℕ) (c size : ℕ) (e : check s ≡ Accepted c size) where
       held-named (grainSectors s (h .packed) (h .«grain_size»)) (ownEntry s g) (i .1) x (i .2) (i .3) (i .4)
 
   most : (x : ℕ) → holders (areas s h) x ≤ 1
-  most = meet-apart (areas s h) (passed .apart)
+  most = good .areas .apart
 
   -- no sector lies in two grains
   two-below : (g k x : ℕ) → g < k → In g x → In k x → ⊥
@@ -84,13 +71,13 @@ module _ (s : List ℕ) (c size : ℕ) (e : check s ≡ Accepted c size) where
 -- ---- a stored sector of an uncompressed image
 module _ (s : List ℕ) (c size : ℕ) (u : Uncompressed c size s) where
   pub size-is : headerOf s .«grain_size» ≡ size
-  size-is = sym (passed s c size (u .accepted) .size)
+  size-is = sym (accepted-sound s c size (u .accepted) .2)
 
   pub capacity-is : headerOf s .capacity ≡ c
-  capacity-is = sym (passed s c size (u .accepted) .capacity)
+  capacity-is = sym (accepted-sound s c size (u .accepted) .1)
 
   some : 1 ≤ size
-  some = rw size-is at (sound s c size (u .accepted) .sizes .low)
+  some = rw size-is at (good s c size (u .accepted) .sound .sizes .low)
 
   -- virtual sector x, whose grain's entry is `first`
   sector-in : (x first : ℕ) → x < c → ownEntry s (x / size) ≡ Sector first
@@ -137,7 +124,7 @@ payload-in : (s : List ℕ) (c size : ℕ) (e : check s ≡ Accepted c size) →
     → g < grainsOf (headerOf s) → PayloadByte s g i → In s c size e g (i / 512)
 unfolding grainSectors pick
 payload-in s c size e packed g i l p =
-    (l, p .first, p .stored, omega (arith, p .from), rw packed (omega (arith, p .to)))
+    (l, p .first, p .names, omega (arith, p .from), rw packed (omega (arith, p .to)))
 
 pub no-payload-twice : (s : List ℕ) (c size : ℕ) → check s ≡ Accepted c size → headerOf s .packed ≡ true → (g k i : ℕ)
     → g < grainsOf (headerOf s) → k < grainsOf (headerOf s) → (g ≡ k → ⊥) → PayloadByte s g i → PayloadByte s k i → ⊥

@@ -69,6 +69,6 @@ oneIfAnswered (Refused k r) = 0
 -- ---- packed grains: byte i of the file is one of the payload of grain g
 pub record PayloadByte (s : List ℕ) (g i : ℕ) : Type 0 where
   pub first : ℕ
-  pub stored : ownEntry s g ≡ Sector first
+  pub names : ownEntry s g ≡ Sector first
   pub from : 512 * first + 12 ≤ i
   pub to : i < 512 * first + 12 + markerSize s first
