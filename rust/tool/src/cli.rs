@@ -24,6 +24,7 @@ pub enum Task {
     Sector(Vec<PathBuf>, u64),
     Read(Vec<PathBuf>, u64, Option<Target>),
     Map(Vec<PathBuf>),
+    Coverage(Vec<PathBuf>),
     /// Whether a grain has one digest.
     Digest(Vec<PathBuf>, bool),
     Compare(Vec<PathBuf>, Asked),
@@ -60,6 +61,7 @@ fn task(name: &str, given: &ArgMatches) -> Option<Task> {
         "survey" => Task::Survey(files),
         "sector" => Task::Sector(files, sector()?),
         "read" => Task::Read(files, sector()?, target().filter(|to| !stream(&to.path))),
+        "map" if given.get_flag("coverage") => Task::Coverage(files),
         "map" => Task::Map(files),
         "digest" => match given.get_one::<PathBuf>("list") {
             None => Task::Digest(files, given.get_flag("grain")),
@@ -98,7 +100,7 @@ pub fn stream(path: &Path) -> bool {
 fn misused(task: &Task) -> Option<&'static str> {
     let input = match task {
         Task::Check(files) | Task::Survey(files) => files,
-        Task::Map(files) | Task::Digest(files, _) => files,
+        Task::Map(files) | Task::Coverage(files) | Task::Digest(files, _) => files,
         Task::Sector(files, _) | Task::Read(files, ..) | Task::Compare(files, _) => files,
         Task::Collapse(files, _) | Task::Move(files, _) => files,
         Task::Normal(file, _) => std::slice::from_ref(file),

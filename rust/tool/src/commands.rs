@@ -116,7 +116,11 @@ fn reading(command: Command) -> Command {
         .subcommand(
             subcommand("map")
                 .about("Lists the runs of sectors that have one source")
-                .arg(layers()),
+                .arg(layers())
+                .arg(flag(
+                    "coverage",
+                    "Count instead: what the sectors of each file are for, and where those of the disk come from",
+                )),
         )
 }
 

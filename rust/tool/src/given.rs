@@ -114,6 +114,31 @@ impl Given {
         }
     }
 
+    /// What the layers below the one that a sector comes from have there. Extents hide nothing of each other.
+    pub fn below(&self, found: &Located, sector: u64) -> Result<Vec<Located>, Failure> {
+        let layers = match self {
+            Given::Layers(layers) => layers,
+            Given::Split(_) => return Ok(Vec::new()),
+        };
+        let located = |layer| {
+            let source = anhkhovet::lookup(layers.bytes(layer), sector);
+            let source = source.map_err(Failure::refused(layers.path(layer)))?;
+            Ok(Located { layer, source })
+        };
+        (0..found.layer).map(located).collect()
+    }
+
+    /// The own bytes of each layer or extent, and its grain size where it is an image.
+    pub fn parts(&self, cut: &Grains) -> Vec<(&[u8], Option<u64>)> {
+        match self {
+            Given::Layers(layers) => {
+                let layers = (0..layers.count() as u64).map(|layer| layers.bytes(layer));
+                layers.map(|own| (own, cut.size())).collect()
+            }
+            Given::Split(split) => split.parts(),
+        }
+    }
+
     /// Where the bytes of `sectors` from `first` on are, all of them of one grain, stored or packed as was found.
     pub fn place(&self, found: &Located, first: u64, sectors: u64) -> Place {
         match self {

@@ -12,6 +12,7 @@ mod cli;
 mod commands;
 mod copied;
 mod cores;
+mod coverage;
 mod describe;
 mod described;
 mod difference;
@@ -26,6 +27,7 @@ mod given;
 mod grains;
 mod guard;
 mod hash;
+mod held;
 mod hint;
 mod json;
 mod judged;
@@ -74,6 +76,7 @@ fn run(task: Task, json: bool) -> Result<(), Failure> {
         Task::Sector(files, sector) => sector::sector(&files, sector, json),
         Task::Read(files, sector, target) => sector::read(&files, sector, target, json),
         Task::Map(files) => map::map(&files, json),
+        Task::Coverage(files) => coverage::coverage(&files, json),
         Task::Digest(files, grains) => digest::print(&files, grains, json),
         Task::Compare(files, asked) => list::compare(&files, &asked, json),
         Task::Collapse(files, target) => write::collapse(&files, &target, json),

@@ -93,7 +93,7 @@ fn runs(given: &mut Given, cut: &Grains) -> Result<Vec<Run>, Failure> {
 }
 
 /// The files, and capacity and grain size.
-fn heading(given: &Given, cut: &Grains) -> String {
+pub fn heading(given: &Given, cut: &Grains) -> String {
     let line = |(layer, path)| format!("layer {layer}: {}\n", name(path));
     let files: String = match given {
         Given::Layers(layers) => layers.paths().enumerate().map(line).collect(),

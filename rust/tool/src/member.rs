@@ -78,6 +78,11 @@ impl Member {
         self.file.as_ref().map_or_else(Files::new, Layers::files)
     }
 
+    /// The own bytes of the file, as many as it has; none without one.
+    pub fn bytes(&self) -> &[u8] {
+        self.file.as_ref().map_or(&[], |file| file.bytes(0))
+    }
+
     /// The grain size, where it is an image that was judged.
     pub fn grain_size(&self) -> Option<u64> {
         match self.judged {

@@ -137,6 +137,13 @@ impl Split {
         }
     }
 
+    /// The own bytes of each extent's file, and its grain size where it is an image that was judged.
+    pub fn parts(&self) -> Vec<(&[u8], Option<u64>)> {
+        let members = self.members.iter().map(|(member, _)| member);
+        let parts = members.map(|member| (member.bytes(), member.grain_size()));
+        parts.collect()
+    }
+
     /// The images of these extents that were still open.
     pub fn open_images(&self) -> OpenImages {
         let open = |(member, _): &&(Member, usize)| member.still_open() == Some(true);

@@ -109,6 +109,25 @@ fn an_image_is_mapped_and_digested() {
     assert_eq!(places, [Some(start), None, second, third]);
 }
 
+#[test]
+fn an_image_is_counted() {
+    let folder = Folder::new();
+    long(&folder, "long", APART);
+    let said = told(&folder, "map --coverage --json long");
+    let said: Value = serde_json::from_str(&said).expect("an object");
+    let row = &said["coverage"][0];
+    let sectors = WINDOW + 16 * GRAIN;
+    assert_eq!(
+        (&row["served"], &row["file_sectors"]),
+        (&json!(4 * GRAIN), &json!(sectors))
+    );
+    // Header, directory and table.
+    assert_eq!(row["no_area"], json!(sectors - 4 * GRAIN - 6));
+    long(&folder, "meeting", MEETING);
+    let ran = run(folder.path(), &["map", "--coverage", "meeting"]);
+    ran.ended(1, SHARED);
+}
+
 /// The check of an extent's image, and what is told of it before and after the check.
 #[test]
 fn an_extent_is_checked_mapped_and_digested() {

@@ -193,6 +193,11 @@ fn map() {
 }
 
 #[test]
+fn coverage() {
+    race(&["map", "--coverage", "disk", "delta"]);
+}
+
+#[test]
 fn digest() {
     race(&["digest", "disk"]);
 }

@@ -252,6 +252,7 @@ fn an_image_is_no_stream_and_that_is_told() {
         &["check", "-"][..],
         &["check", "tool-base.vmdk", "-"],
         &["map", "-"],
+        &["map", "--coverage", "-"],
         &["sector", "-", "0"],
         &["read", "-", "0"],
         &["digest", "-"],

@@ -139,5 +139,5 @@ macro_rules! transcripts {
 }
 
 transcripts!(
-    check survey sector read map digest collapse normal describe refusals outside split still_open mend moves
+    check survey sector read map coverage digest collapse normal describe refusals outside split still_open mend moves
 );

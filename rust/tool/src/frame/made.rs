@@ -51,7 +51,8 @@ impl Form {
             footer: packed && chance.once_in(2),
             redundant: !cowd && chance.once_in(2),
             zeroed: !cowd && chance.once_in(2),
-            capacity: 9000,
+            // It ends inside of a grain.
+            capacity: 8997,
             grain: if cowd { 2 } else { 8 },
         }
     }

@@ -11,7 +11,7 @@ use std::fs;
 use std::path::{Path, PathBuf};
 
 const IMAGES: u64 = 1200;
-const CAPACITY: u64 = 9000;
+const CAPACITY: u64 = 8997;
 const GRAIN: u64 = 8;
 
 /// A folder that goes when the test ends.
