@@ -138,6 +138,7 @@ lookups("other-table-past", image(6, (0, kdmv(4104)), (1, entries(2, 3))), (0, a
 # what the lookup does not judge: the descriptor, the redundant directory (above), grains that share a sector, bytes past F
 lookups("descriptor-past", small(8, 0, head=kdmv(descriptor=(6, 11))), (0, stored(8)))
 lookups("two-grains-on-one", small(8, 8), (0, stored(8)), (8, stored(8)))
+lookups("grains-overlap", small(8, 15, sectors=23), (7, stored(15)), (8, stored(15)))
 lookups("past-last-sector", small(8, 0) + b"\xff" * 511, (0, stored(8)), (7, stored(15)), (8, absent()))
 # the order: 1 to 7, 20, 8, 9, 10
 lookups("header-before-20", small(0, 0, head=kdmv(version=0)), (16, refused(3)))
@@ -233,6 +234,9 @@ chain("cowd-under-kdmv", [image(38, (0, cowd(16, 8)), (4, entries(5)), (5, entri
 chain("packed-over-stored",
       [BASE, image(7, (0, PACKED), (1, entries(2)), (2, entries(6, 0)), (6, marker(0, 500)))],
       (3, packed(6, 500, 3, 1)), (8, stored(8, 0)))
+# a place is a layer's number and a file sector (A10): the same sector in two layers, and the same bytes given twice
+chain("one-sector-of-two-layers", [small(8, 0), small(0, 8)], (0, stored(8, 0)), (7, stored(15, 0)), (8, stored(8, 1)))
+chain("one-image-twice", [small(8, 0), small(8, 0)], (0, stored(8, 1)), (8, absent()))
 chain("layers-of-odd-length", [BASE + b"\xff" * 511, MIDDLE + b"\xff"], (0, zero(1)), (8, stored(8, 1)))
 # entries of 1, in each layer by its own header
 chain("entry-1-over-zeros", [small(1, 1, head=zeroed(), sectors=6), small(1, 0, sectors=9)],
