@@ -85,6 +85,11 @@ fn page(name: &str, least: usize) {
 }
 
 #[test]
+fn coverage() {
+    page("COVERAGE.md", 4);
+}
+
+#[test]
 fn course() {
     page("COURSE.md", 20);
 }
