@@ -1,5 +1,5 @@
-//! `map --coverage`: what each sector of each file is for, and where each sector of the disk comes from, all of them counted. One
-//! lookup a grain is enough, and one more in each layer below the one that serves it.
+//! `map --coverage`: what each sector of each file is for, and where each sector of the disk comes from, all of them counted.
+//! One lookup a grain is enough, and one more in each layer below the one that serves it.
 
 use crate::checked::checked;
 use crate::failure::Failure;

@@ -34,7 +34,7 @@ const AREAS: [&str; 8] = [
     "last_sector",
 ];
 
-fn area(group: Group) -> &'static str {
+fn word(group: Group) -> &'static str {
     AREAS[match group {
         Group::Header => 0,
         Group::Descriptor => 1,
@@ -109,27 +109,13 @@ impl<'a> Chain<'a> {
     fn marks(&self, layer: usize) -> Marks {
         let image = self.images[layer];
         let mut marks = vec![NOTHING; image.len() / SECTOR as usize];
-        for area_found in anhkhovet::frame(image).expect("a frame") {
-            let (first, end) = (area_found.first, area_found.first + area_found.sectors);
-            mark(&mut marks, first..end, area(area_found.group));
+        for area in anhkhovet::frame(image).expect("a frame") {
+            let sectors = area.first..area.first + area.sectors;
+            mark(&mut marks, sectors, word(area.group));
         }
         for sector in 0..self.disk.capacity {
             let here = self.located(sector).layer == layer as u64;
-            match anhkhovet::lookup(image, sector).expect("an answer") {
-                Source::Stored { sector: at } => {
-                    let word = if here { "served" } else { "hidden" };
-                    mark(&mut marks, at..at + 1, word);
-                }
-                Source::Packed {
-                    sector: at,
-                    size,
-                    offset: 0,
-                } => {
-                    let word = if here { "packed" } else { "hidden" };
-                    mark(&mut marks, at..at + (12 + size + 511) / 512, word);
-                }
-                _ => {}
-            }
+            mark_source(image, sector, here, &mut marks);
         }
         self.mark_rest(image, &mut marks);
         marks
@@ -187,6 +173,20 @@ impl<'a> Chain<'a> {
                 "grains": self.kinds((0..capacity).step_by(grain_size as usize)),
             },
         })
+    }
+}
+
+/// The file sectors of a virtual sector in a layer, or of the packed grain that begins there. The chain has it from here or not.
+fn mark_source(image: &[u8], sector: u64, here: bool, marks: &mut Marks) {
+    let word = |served| if here { served } else { "hidden" };
+    match anhkhovet::lookup(image, sector).expect("an answer") {
+        Source::Stored { sector: at } => mark(marks, at..at + 1, word("served")),
+        Source::Packed {
+            sector: at,
+            size,
+            offset: 0,
+        } => mark(marks, at..at + (12 + size + 511) / 512, word("packed")),
+        _ => {}
     }
 }
 
