@@ -133,7 +133,8 @@ source-is s c size u x l a e =
     let source : sourceOf s (headerOf s) x ≡ a = cc in
     rw (u .unpacked, size-is s c size u) at source
 
-module _ (s lengths : List ℕ) (c size : ℕ) (all : (k : ℕ) → k < length lengths → Uncompressed c size (layerAt s lengths k)) where
+module _ (s lengths : List ℕ) (c size : ℕ)
+    (all : (k : ℕ) → k < length lengths → Uncompressed c size (layerAt s lengths k)) where
   pub stored-comes-from : (x k sector : ℕ)
       → chainLookup s lengths x ≡ Found (record { layer = k; source = Stored sector })
       → (x < c) × (ComesFrom (length lengths) (layerAt s lengths) size x k sector)
