@@ -78,7 +78,7 @@ fn right(folder: &Folder, names: &[&str]) -> Value {
 fn made_chains() {
     let folder = Folder::new();
     let mut met = [0; 6];
-    for alike in accepted(0..300) {
+    for alike in accepted(0..900) {
         for (seed, image) in &alike {
             fs::write(folder.at(&seed.to_string()), image).expect("written");
         }

@@ -9,7 +9,7 @@ use std::fs;
 use std::path::Path;
 
 /// Enough that every type of extent meets every kind of image and every refusal.
-const DISKS: u64 = 300;
+const DISKS: u64 = 450;
 const EXTENTS: u64 = 5;
 
 /// A folder that goes when the test ends.
