@@ -63,7 +63,9 @@ fn numbers_of(refusal: Refusal) -> Numbers
         Refusal::LayerLengths => Numbers(24, 0),
         Refusal::StillOpen => Numbers(27, 0),
         Refusal::NotMendable => Numbers(40, 0),
+        Refusal::NotNormal(byte) => Numbers(42, byte),
         Refusal::NotMovable => Numbers(44, 0),
+        Refusal::ProfileSizes => Numbers(47, 0),
     }
 }
 

@@ -13,7 +13,7 @@ use Rattle.format.specs.declared.Refusal.{Refusal}
 use Rattle.format.specs.declared.Refusal.the-variants.{TooShort, Magic, Version, Newline, Flags, Sizes, Footer, Misplaced}
 use Rattle.format.specs.declared.Refusal.the-variants.{GrainPast, Marker, CopiesDiffer, SharedSector, SectorPast}
 use Rattle.format.specs.declared.Refusal.the-variants.{TooLittleRoom, LayersDiffer, NotCollapsible, LayerLengths}
-use Rattle.format.specs.declared.Refusal.the-variants.{StillOpen, NotMendable, NotMovable}
+use Rattle.format.specs.declared.Refusal.the-variants.{StillOpen, NotMendable, NotNormal, NotMovable, ProfileSizes}
 use Rattle.format.specs.declared.Source.{Source}
 use Rattle.format.specs.declared.Source.the-variants.{Absent, Zero, Stored, Packed}
 use Rattle.format.specs.declared.CheckAnswer.{CheckAnswer}
@@ -69,7 +69,9 @@ refusalOf n p =
     (pick (eqb n 22) LayersDiffer
     (pick (eqb n 23) NotCollapsible
     (pick (eqb n 24) LayerLengths
-    (pick (eqb n 27) StillOpen (pick (eqb n 40) NotMendable NotMovable))))))))))))))))))
+    (pick (eqb n 27) StillOpen
+    (pick (eqb n 40) NotMendable
+    (pick (eqb n 42) (NotNormal p) (pick (eqb n 44) NotMovable ProfileSizes))))))))))))))))))))
 
 -- a refusal has its number and place, and the number is not 0
 record Told (r : Refusal) : Type 0 where
@@ -101,7 +103,9 @@ told NotCollapsible = record { back = refl; some = refl }
 told LayerLengths = record { back = refl; some = refl }
 told StillOpen = record { back = refl; some = refl }
 told NotMendable = record { back = refl; some = refl }
+told (NotNormal byte) = record { back = refl; some = refl }
 told NotMovable = record { back = refl; some = refl }
+told ProfileSizes = record { back = refl; some = refl }
 
 pub refusal-alike : (r q : Refusal) → number r ≡ number q → place r ≡ place q → r ≡ q
 refusal-alike r q e p = sym (told r .back) ∙ rw (e, p) (told q .back)

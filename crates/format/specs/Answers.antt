@@ -9,7 +9,7 @@ use Rattle.format.specs.declared.Refusal.{Refusal}
 use Rattle.format.specs.declared.Refusal.the-variants.{TooShort, Magic, Version, Newline, Flags, Sizes, Footer, Misplaced}
 use Rattle.format.specs.declared.Refusal.the-variants.{GrainPast, Marker, CopiesDiffer, SharedSector, SectorPast}
 use Rattle.format.specs.declared.Refusal.the-variants.{TooLittleRoom, LayersDiffer, NotCollapsible, LayerLengths}
-use Rattle.format.specs.declared.Refusal.the-variants.{StillOpen, NotMendable, NotMovable}
+use Rattle.format.specs.declared.Refusal.the-variants.{StillOpen, NotMendable, NotNormal, NotMovable, ProfileSizes}
 use Rattle.format.specs.declared.Source.{Source}
 use Rattle.format.specs.declared.Source.the-variants.{Absent, Zero, Stored, Packed}
 use Rattle.format.specs.declared.HeaderAnswer.{HeaderAnswer}
@@ -61,7 +61,9 @@ number NotCollapsible = 23
 number LayerLengths = 24
 number StillOpen = 27
 number NotMendable = 40
+number (NotNormal byte) = 42
 number NotMovable = 44
+number ProfileSizes = 47
 
 -- the parts of 8 (request A8)
 abbrev pub partNumber : MisplacedPart → ℕ
@@ -72,7 +74,7 @@ partNumber PrimaryTable = 4
 partNumber RedundantTable = 5
 
 -- the part for 8 (the lowest that applies; in a lookup the directory or the sector's own table), the grain for 9 and 10 (the
--- lowest one at fault; in a lookup the sector's own), else 0
+-- lowest one at fault; in a lookup the sector's own), the byte for 42 (the first that differs), else 0
 abbrev pub place : Refusal → ℕ
 place TooShort = 0
 place Magic = 0
@@ -93,7 +95,9 @@ place NotCollapsible = 0
 place LayerLengths = 0
 place StillOpen = 0
 place NotMendable = 0
+place (NotNormal byte) = byte
 place NotMovable = 0
+place ProfileSizes = 0
 
 -- ---- a header alone: the descriptor's numbers as it has them, 0 for COWD, and of either kind the dirty number. None is judged
 -- here: 8 and 27 are no rules of the header

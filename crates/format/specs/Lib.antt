@@ -13,6 +13,7 @@ pub mod Grains
 pub mod Layout
 pub mod Collapse
 pub mod Moves
+pub mod Profile
 pub mod Answers
 pub mod Survey
 pub mod CheckIn

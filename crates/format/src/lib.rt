@@ -59,8 +59,8 @@ pub enum MisplacedPart {
     RedundantTable,
 }
 
-// Why a call on images refuses, in the order of its numbers: 1 to 12, 20 to 24, 27, 40, 44. A case holds the part or the grain
-// that is its place.
+// Why a call on images refuses, in the order of its numbers: 1 to 12, 20 to 24, 27, 40, 42, 44, 47. A case holds the part, the
+// grain or the byte that is its place.
 pub enum Refusal {
     TooShort,
     Magic,
@@ -81,7 +81,9 @@ pub enum Refusal {
     LayerLengths,
     StillOpen,
     NotMendable,
+    NotNormal(u64),
     NotMovable,
+    ProfileSizes,
 }
 
 // As an image of which kind grains are written.
