@@ -18,7 +18,7 @@ use format::HeaderAnswer;
 use format::Kind;
 use format::Refusal;
 
-fn not_collapsible(h: Header) -> bool
+pub fn not_collapsible(h: Header) -> bool
     ensures { λ r. ⌜ r ≡ notCollapsible h ⌝ }
 {
     h.cowd | h.packed

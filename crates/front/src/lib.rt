@@ -46,7 +46,7 @@ fn put_back(out: &mut [u8], overhead: u64)
     base::fill(&mut *out, 77, 435);
 }
 
-fn write_kdmv(out: &mut [u8], capacity: u64, size: u64)
+pub fn write_kdmv(out: &mut [u8], capacity: u64, size: u64)
     requires { ⌜ Sized capacity size × (512 ≤ length (now out)) ⌝ }
     ensures { λ _. ⌜ now (out .exit) ≡ over (now (out .entry)) 0 (headerBytes Kdmv capacity size 0) ⌝ }
 {

@@ -9,7 +9,7 @@ use lib.Dec.{lit≤}
 use lib.Seq.{getD-drop}
 use borrow.Author.Tests.{lt-ltb, ne-eqb}
 use Rattle.base.specs.Pick.{pick}
-use Rattle.base.specs.Numbers.{leAt}
+use Rattle.base.specs.Numbers.{leAt, leBytes}
 use Rattle.base.proofs.Stands.{Stands, stands-in, stands-at}
 use Rattle.base.proofs.Numbers.{read-number}
 use Rattle.base.proofs.Rows.{rows-at, entry-at}
@@ -55,7 +55,7 @@ entry-told kind (stored b) v w h = sector-told (oneIsZero kind) v h
 module _ (s : List ℕ) (b : Bool) (at first k n : ℕ) (late : 2 ≤ first)
     (named : (d : ℕ) → d < n → entryAt s at d ≡ first + k * d)
   where
-    flat-entry : (g : ℕ) → g / (128 * k) < n → entryOfGrain s b (128 * k) at g ≡ meaning b (leAt s (512 * first + 4 * g) 4)
+    pub flat-entry : (g : ℕ) → g / (128 * k) < n → entryOfGrain s b (128 * k) at g ≡ meaning b (leAt s (512 * first + 4 * g) 4)
     unfolding entryOfGrain inTable
     flat-entry g h =
         let q = g / (128 * k) in
@@ -73,35 +73,43 @@ grain-told s c size g v (stored b) w h =
 
 -- ---- a layout
 module _ (kind : Kind) {c size : ℕ} (z : Sizes c size) (m : Map) where
-  pub table-read : (d : ℕ) → d < tableCount kind c size
-      → entryAt (layoutAs kind c size m) (headSectors kind) d ≡ tablesAt kind c size + sectorsPerTable kind * d
+  pub table-stands : (d : ℕ) → d < tableCount kind c size
+      → Stands (layoutAs kind c size m) (512 * headSectors kind + 4 * d)
+      (leBytes 4 (tablesAt kind c size + sectorsPerTable kind * d))
   unfolding directoryBytes
-  table-read d h =
+  table-stands d h =
       let e : directoryEntry kind c size d ≡ tablesAt kind c size + sectorsPerTable kind * d =
       pick-then _ _ _ (lt-ltb d (tableCount kind c size) h) in
-      read-number 4 _
-      (stands-at _ (omega arith)
+      stands-at _ (omega arith)
       (stands-in (directory-stands kind z m)
-      (rw e at (entry-at _ (directoryEntry kind c size) d (directory-below kind z d h)))))
-      (table-small kind z d h)
+      (rw e at (entry-at _ (directoryEntry kind c size) d (directory-below kind z d h))))
+
+  pub table-read : (d : ℕ) → d < tableCount kind c size
+      → entryAt (layoutAs kind c size m) (headSectors kind) d ≡ tablesAt kind c size + sectorsPerTable kind * d
+  table-read d h = read-number 4 _ (table-stands d h) (table-small kind z d h)
+
+  pub entry-stands : (g : ℕ) → g < grains c size
+      → Stands (layoutAs kind c size m) (512 * tablesAt kind c size + 4 * g)
+      (leBytes 4 (entryFor (m g) (sectorOf kind c size m g)))
+  unfolding tableBytes
+  entry-stands g h =
+      let e : tableEntry kind c size m g ≡ entryFor (m g) (sectorOf kind c size m g) =
+      pick-then _ _ _ (lt-ltb g (grains c size) h) in
+      stands-at _ (omega arith)
+      (stands-in (tables-stand kind z m) (rw e at (entry-at _ (tableEntry kind c size m) g (entry-below kind z g h))))
 
   pub entry-read : (g : ℕ) → g < grains c size → Held kind (m g)
       → grainEntry (layoutAs kind c size m) (laidHeader kind c size) g ≡ entryTold (m g) (sectorOf kind c size m g)
-  unfolding tableBytes
   entry-read g h w =
-      let e : tableEntry kind c size m g ≡ entryFor (m g) (sectorOf kind c size m g) =
-      pick-then _ _ _ (lt-ltb g (grains c size) h) in
       flat-entry (layoutAs kind c size m) (oneIsZero kind) (headSectors kind) (tablesAt kind c size) (sectorsPerTable kind)
       (tableCount kind c size) (tables-late kind z) table-read g (table-of kind z g h)
       ∙ ap (meaning (oneIsZero kind))
-      (read-number 4 _
-      (stands-at _ (omega arith)
-      (stands-in (tables-stand kind z m) (rw e at (entry-at _ (tableEntry kind c size m) g (entry-below kind z g h)))))
+      (read-number 4 _ (entry-stands g h)
       (entry-small (m g) _ _ (lit≤ tt) (sector-small kind z m g (omega arith))))
       ∙ entry-told kind (m g) (sectorOf kind c size m g) w (sector-late kind z m g)
 
   module _ (f : Fits c size m) where
-    grain-stands : (g : ℕ) → g < grains c size
+    pub grain-stands : (g : ℕ) → g < grains c size
         → Stands (layoutAs kind c size m) (512 * sectorOf kind c size m g) (bytesOf (m g))
     unfolding grainBytes sectorOf
     grain-stands g h =

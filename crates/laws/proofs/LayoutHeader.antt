@@ -150,6 +150,11 @@ module _ {c size : ℕ} (z : Sizes c size) where
           atEnd = λ q. absurd (omega (arith, q));
         }
 
+    -- what such an image's header tells
+    pub front-laid : headerOf s ≡ laidHeader Kdmv c size
+    unfolding kdmvHeader directoryOf pick tableCount
+    front-laid = kdmv-is s (rw fields-read rules-kept) ∙ rw fields-read
+
   -- ---- the same of COWD
   module _ (s : List ℕ) (n : ℕ) (h : Stands s 0 (headerBytes Cowd c size n)) where
     cowd-field : (i : ℕ) → i < 9 → Stands s (length (firstOf (cowdParts c size n) i)) (getD (cowdParts c size n) i [])

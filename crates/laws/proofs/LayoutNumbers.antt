@@ -37,7 +37,7 @@ module _ (kind : Kind) {c size : ℕ} (z : Sizes c size) where
   some-sectors : 1 ≤ 128 * sectorsPerTable kind * size
   some-sectors = let f = few kind in mul-pos (omega arith) (some-size z)
 
-  some-table : 1 ≤ tableCount kind c size
+  pub some-table : 1 ≤ tableCount kind c size
   unfolding tableCount directoryEntries
   some-table = ceil-above c (128 * sectorsPerTable kind * size) some-sectors 0 (omega (arith, z .capacity .low))
 

@@ -10,7 +10,7 @@ use Rattle.base.proofs.Rows.{part-at}
 use Rattle.format.specs.Geometry.{grains}
 use Rattle.format.specs.Grains.{Map}
 use Rattle.format.specs.Layout.{Fits, headSectors, tablesAt, tablesEnd, sectorV, sectorsLaid, headerBytes, directoryBytes}
-use Rattle.format.specs.Layout.{tableBytes, grainBytes, layoutParts, layoutAs, lengthAs}
+use Rattle.format.specs.Layout.{tableBytes, gapBytes, grainBytes, layoutParts, layoutAs, lengthAs}
 use Rattle.format.specs.declared.Kind.{Kind}
 use Rattle.format.proofs.Grains.{whole-length, stored-length}
 use Rattle.format.proofs.Lengths.{header-length, directory-length, tables-length, gap-length, grains-late}
@@ -30,6 +30,12 @@ module _ (kind : Kind) {c size : ℕ} (z : Sizes c size) (m : Map) where
   tables-stand =
       stands-at _ (simp (length-append, header-length, directory-length) (omega arith))
       (part-at (layoutParts kind c size m) 2 (omega arith))
+
+  pub gap-stands : Stands (layoutAs kind c size m) (512 * tablesEnd kind c size) (gapBytes kind c size)
+  unfolding layoutAs rows tablesEnd tablesAt
+  gap-stands =
+      stands-at _ (simp (length-append, header-length, directory-length, tables-length) (omega arith))
+      (part-at (layoutParts kind c size m) 3 (omega arith))
 
   before-grains : length (firstOf (layoutParts kind c size m) 4) ≡ 512 * sectorV kind c size
   unfolding rows tablesEnd tablesAt
