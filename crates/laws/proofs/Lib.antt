@@ -86,5 +86,6 @@ pub mod ExamplesEntryOne
 pub mod ExamplesSplit
 pub mod MovedImages
 pub mod MovedAnswer
+pub mod ProfilePlace
 pub mod ExamplesMoves
 pub mod NotConstantMoves
