@@ -21,7 +21,7 @@ use Rattle.format.specs.Judged.{Passed}
 use Rattle.format.proofs.Picked.{passed}
 
 -- ---- its steps
-accepted-past : (b : Bool) (r : Refusal) (y : CheckAnswer) (c g : ℕ) → pick b (Refused r) y ≡ Accepted c g
+pub accepted-past : (b : Bool) (r : Refusal) (y : CheckAnswer) (c g : ℕ) → pick b (Refused r) y ≡ Accepted c g
     → (b ≡ false) × (y ≡ Accepted c g)
 accepted-past b r y c g e = passed b (Refused r) y (Accepted c g) (λ q. let z : _≡_ {A = ℕ} 0 1 = cc in omega arith) e
 

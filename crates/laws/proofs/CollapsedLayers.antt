@@ -26,7 +26,7 @@ module _ {c size : ℕ} {s : List ℕ} (p : Layer c size s) where
   pub size-is : headerOf s .«grain_size» ≡ size
   size-is = sym (accepted-sound s c size (p .accepted) .2)
 
-  kdmv-only : headerOf s .cowd ≡ false
+  pub kdmv-only : headerOf s .cowd ≡ false
   kdmv-only = or-no _ _ (p .collapsible) .0
 
   pub unpacked : headerOf s .packed ≡ false

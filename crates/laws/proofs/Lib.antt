@@ -87,5 +87,6 @@ pub mod ExamplesSplit
 pub mod MovedImages
 pub mod MovedAnswer
 pub mod ProfilePlace
+pub mod ProfileMet
 pub mod ExamplesMoves
 pub mod NotConstantMoves
