@@ -88,5 +88,6 @@ pub mod MovedImages
 pub mod MovedAnswer
 pub mod ProfilePlace
 pub mod ProfileMet
+pub mod ProfileImages
 pub mod ExamplesMoves
 pub mod NotConstantMoves
