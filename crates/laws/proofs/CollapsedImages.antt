@@ -20,7 +20,7 @@ use Rattle.laws.proofs.CollapsedLayers.{capacity-is, size-is, layer-siz
 module _ {c size : ℕ} where
   -- ---- normal form
   module _ {s : List ℕ} (p : Layer c size s) where
-    normal-is : normalForm s ≡ layoutOf c size (mapOf s)
+    pub normal-is : normalForm s ≡ layoutOf c size (mapOf s)
     normal-is = rw (capacity-is p, size-is p)
 
     -- it is accepted, with the same capacity and grain size, and may be collapsed again

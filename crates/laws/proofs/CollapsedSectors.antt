@@ -95,6 +95,10 @@ source-tells s a plain x low =
     (entry-tells s (h .capacity) (h .«grain_size») (x / h .«grain_size») (x % h .«grain_size») (mod-lt x (sound .sizes .low))
     (rw div-add-mod' low) _ (rw plain at inside))
 
+pub layer-tells : {c size : ℕ} {s : List ℕ} → Layer c size s → (x : ℕ) → x < c
+    → Tells s (sourceOf s (headerOf s) x) (sectorIn (x % size) (mapOf s (x / size)))
+layer-tells {s = s} p x low = rw (← size-is p) (source-tells s (layer-accepted p) (unpacked p) x (rw (capacity-is p) low))
+
 -- ---- the lookup finds what the map says
 pub record Looked (s : List ℕ) (x : ℕ) (g : Grain) : Type 0 where
   pub source : Source
@@ -103,11 +107,8 @@ pub record Looked (s : List ℕ) (x : ℕ) (g : Grain) : Type 0 where
 
 pub looked : {c size : ℕ} {s : List ℕ} → Layer c size s → (x : ℕ) → x < c
     → Looked s x (sectorIn (x % size) (mapOf s (x / size)))
-looked {c} {size} {s} p x low =
-    let a = layer-accepted p in
-    let below : x < headerOf s .capacity = rw (capacity-is p) low in
-    record {
-      source = sourceOf s (headerOf s) x;
-      found = served s a x below;
-      tells = rw (← size-is p) (source-tells s a (unpacked p) x below);
-    }
+looked {s = s} p x low = record {
+  source = sourceOf s (headerOf s) x;
+  found = served s (layer-accepted p) x (rw (capacity-is p) low);
+  tells = layer-tells p x low;
+}

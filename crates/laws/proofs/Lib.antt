@@ -89,5 +89,6 @@ pub mod MovedAnswer
 pub mod ProfilePlace
 pub mod ProfileMet
 pub mod ProfileImages
+pub mod ProfileOneFile
 pub mod ExamplesMoves
 pub mod NotConstantMoves
