@@ -92,3 +92,5 @@ pub mod ProfileImages
 pub mod ProfileOneFile
 pub mod ExamplesMoves
 pub mod NotConstantMoves
+pub mod ExamplesProfile
+pub mod NotConstantProfile
