@@ -9,7 +9,7 @@ use Rattle.format.specs.Collapse.{normalForm, collapsed, writtenIfRoom, collaps
 use Rattle.format.specs.declared.CollapseAnswer.the-variants.{Written}
 use Rattle.format.proofs.Picked.{pick-else}
 use Rattle.laws.specs.Layers.{Layer}
-use Rattle.laws.specs.Profile.{Meets}
+use Rattle.laws.specs.ProfileImages.{Meets}
 use Rattle.laws.proofs.CollapsedImages.{normal-accepted, normal-normal, collapsed-accepted, collapsed-normal}
 use Rattle.laws.proofs.CollapsedAnswer.{layers-collapse, collapse-output}
 use Rattle.laws.proofs.ProfileMet.{layer-meets, meets-layer}

@@ -23,7 +23,7 @@ use Rattle.format.specs.declared.CheckAnswer.the-variants.{Accepted, Refused}
 use Rattle.format.proofs.Picked.{pick-then, pick-else, passed}
 use Rattle.format.proofs.Passed.{accepted-past}
 use Rattle.laws.specs.Layers.{Layer}
-use Rattle.laws.specs.Profile.{Meets, FirstAt}
+use Rattle.laws.specs.ProfileImages.{Meets, FirstAt}
 use Rattle.laws.proofs.AcceptedImage.{accepted-sound, accepted-complete}
 use Rattle.laws.proofs.CheckRefusals.{check-refuses}
 use Rattle.laws.proofs.CollapsedLayers.{layer-accepted, kdmv-only, capacity-is, size-is, unpacked}

@@ -21,7 +21,7 @@ use Rattle.format.specs.declared.Source.{Source}
 use Rattle.laws.specs.Layers.{Layer, SameGrains}
 use Rattle.laws.specs.Served.{SameSource, absent as sameAbsent, zero as sameZero, stored as sameStored}
 use Rattle.laws.specs.MovedImages.{SameSector}
-use Rattle.laws.specs.Profile.{Meets}
+use Rattle.laws.specs.ProfileImages.{Meets}
 use Rattle.laws.proofs.LayoutNumbers.{some-size}
 use Rattle.laws.proofs.CollapsedMaps.{layout-same}
 use Rattle.laws.proofs.CollapsedLayers.{layer-sizes, map-fits}

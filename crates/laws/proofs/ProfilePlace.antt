@@ -12,7 +12,7 @@ use Rattle.base.specs.Pick.{pick}
 use Rattle.base.specs.Bytes.{SameBytes}
 use Rattle.base.proofs.Steps.{and-yes, true-or-false, cond-all, lt-or-ge}
 use Rattle.format.specs.Profile.{sameFile, firstDifference}
-use Rattle.laws.specs.Profile.{DifferAt, byte, firstEnds, secondEnds, FirstAt}
+use Rattle.laws.specs.ProfileImages.{DifferAt, byte, firstEnds, secondEnds, FirstAt}
 
 -- ---- the same file is every byte and the length
 pub same-file : (a b : List ℕ) → sameFile a b ≡ true → a ≡ b

@@ -13,4 +13,4 @@ pub mod Misplaced
 pub mod Examples
 pub mod ExampleLayers
 pub mod MovedImages
-pub mod Profile
+pub mod ProfileImages
