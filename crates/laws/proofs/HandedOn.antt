@@ -1,5 +1,5 @@
--- Refusal 8 with its place is handed on by collapse, normal form and mending, as the check gives it, and by the chain, as the
--- lookup gives it; a lookup's place is 2 or 4 (request A8).
+-- Refusal 8 with its place is handed on by collapse, normal form, profile and mending, as the check gives it, and by the chain,
+-- as the lookup gives it; a lookup's place is 2 or 4 (request A8).
 use Prim.Native.Nat.{ℕ, zero, suc, _≤_}
 use mathlib.Core.Path.{_≡_, refl, ap}
 use mathlib.Core.List.{List}
@@ -15,6 +15,7 @@ use Rattle.format.specs.Check.{misplaced, lowestMisplaced, checkGrains, checkLa
 use Rattle.format.specs.Source.{lookupIn, lookupFrom, sectorLookup}
 use Rattle.format.specs.Chain.{layerAt, ifKnown, headersDown, unlessAbsent, walkDown, walk, chainLookup}
 use Rattle.format.specs.Collapse.{ifAccepted, normal, collapse}
+use Rattle.format.specs.Profile.{profileIfAccepted, profile}
 use Rattle.format.specs.Mend.{fromGood, mendedIfRoom, mendGood, mendFrom, mend}
 use Rattle.format.specs.Answers.{number, place}
 use Rattle.format.specs.declared.Header.{Header}
@@ -50,6 +51,11 @@ module _ (r : Refusal) (room : ℕ) where
       → collapse lower upper room ≡ notWritten r
   unfolding ifAccepted
   upper-handed lower upper c size a e = rw (a, e)
+
+-- ---- the profile: whatever the check refuses
+pub profile-handed : (s : List ℕ) (r : Refusal) → check s ≡ unaccepted r → profile s ≡ unaccepted r
+unfolding profileIfAccepted
+profile-handed s r e = rw e
 
 -- ---- mending: 1 to 8, both ways; past 8 only 40 and 21 are given
 abbrev LateMend : MendAnswer → Type 0

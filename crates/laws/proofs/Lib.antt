@@ -94,3 +94,4 @@ pub mod ExamplesMoves
 pub mod NotConstantMoves
 pub mod ExamplesProfile
 pub mod NotConstantProfile
+pub mod NeverUsedProfile

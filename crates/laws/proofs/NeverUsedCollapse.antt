@@ -49,14 +49,14 @@ module _ (s t : List ℕ) (both : SameSectors s t) where
       (λ i b. getD-drop (512 * e) s i 0 ∙ both .same (512 * e + i) (omega arith) ∙ sym (getD-drop (512 * e) t i 0)))
 
   module _ {c size : ℕ} (p : Layer c size s) where
-    layer-same : Layer c size t
+    pub layer-same : Layer c size t
     layer-same = record {
       accepted = sym (never-used-check s t both) ∙ p .accepted;
       collapsible = rw (← layer-header s t (never-used s t both) p) (p .collapsible);
       clean = rw (← layer-header s t (never-used s t both) p) (p .clean);
     }
 
-    map-same : SameGrains c size (mapOf s) (mapOf t)
+    pub map-same : SameGrains c size (mapOf s) (mapOf t)
     unfolding checkFrom
     map-same g l =
         let h = headerOf s in

@@ -3,7 +3,7 @@
 use Prim.Native.Nat.{ℕ, _%_, _≤_}
 use mathlib.Core.Path.{_≡_, refl, sym, ap, subst, _∙_}
 use mathlib.Core.List.{List, _++_}
-use mathlib.Core.Bool.{Bool, true, false, not, _||_, true≢false}
+use mathlib.Core.Bool.{Bool, true, false, not, true≢false}
 use native.Mathlib.Omega.{arith}
 use lib.Dec.{eqb}
 use lib.ListN.{length}
@@ -24,7 +24,7 @@ use Rattle.format.proofs.Picked.{pick-then, pick-else, passed}
 use Rattle.format.proofs.Passed.{accepted-past}
 use Rattle.laws.specs.Layers.{Layer}
 use Rattle.laws.specs.ProfileImages.{Meets, FirstAt}
-use Rattle.laws.proofs.AcceptedImage.{accepted-sound, accepted-complete}
+use Rattle.laws.proofs.AcceptedImage.{accepted-complete}
 use Rattle.laws.proofs.CheckRefusals.{check-refuses}
 use Rattle.laws.proofs.CollapsedLayers.{layer-accepted, kdmv-only, capacity-is, size-is, unpacked}
 use Rattle.laws.proofs.CollapsedAnswer.{own-layer}
@@ -61,13 +61,18 @@ sizes-kept : (s : List ℕ) → headerOf s .«grain_size» ≡ 128 → headerOf 
     → profileSizesBroken (headerOf s) ≡ false
 sizes-kept s e m = rw (e, m)
 
+pub accepted-profile : (s : List ℕ) (c size : ℕ) → check s ≡ Accepted c size
+    → profile s ≡ profileFrom (headerOf s) s (normalForm s)
+unfolding profileIfAccepted
+accepted-profile s c size e = rw e
+
 layer-profile : {c : ℕ} {s : List ℕ} → Layer c 128 s → c % 128 ≡ 0 → profile s ≡ profileForm (headerOf s) s (normalForm s)
-unfolding profileIfAccepted profileFrom
-layer-profile {s = s} p m =
-    rw (p .accepted)
-    (pick-else _ _ _ (p .collapsible)
+unfolding profileFrom
+layer-profile {c} {s} p m =
+    accepted-profile s c 128 (p .accepted)
+    ∙ pick-else _ _ _ (p .collapsible)
     ∙ pick-else _ _ _ (p .clean)
-    ∙ pick-else _ _ _ (sizes-kept s (size-is p) (rw (capacity-is p) m)))
+    ∙ pick-else _ _ _ (sizes-kept s (size-is p) (rw (capacity-is p) m))
 
 -- an image that meets the profile is accepted, with its capacity and 128
 pub meets-profile : {s : List ℕ} → Meets s → profile s ≡ Accepted (headerOf s .capacity) 128
@@ -113,7 +118,7 @@ same-form true r k g c size q = (refl, cc, cc)
 same-form false r k g c size q = let z : _≡_ {A = ℕ} 0 1 = cc in absurd (omega arith)
 
 -- what the rules before the form have found
-own-sizes : (s : List ℕ) (c size : ℕ) → check s ≡ Accepted c size → notCollapsible (headerOf s) ≡ false
+pub own-sizes : (s : List ℕ) (c size : ℕ) → check s ≡ Accepted c size → notCollapsible (headerOf s) ≡ false
     → stillOpen (headerOf s) ≡ false → profileSizesBroken (headerOf s) ≡ false
     → (Layer (headerOf s .capacity) 128 s) × (headerOf s .capacity % 128 ≡ 0)
 own-sizes s c size e n o z =

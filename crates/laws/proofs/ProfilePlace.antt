@@ -8,7 +8,6 @@ use native.Mathlib.Omega.{arith}
 use lib.Dec.{eqb}
 use lib.ListN.{length, getD, length-append, List·getD-append}
 use borrow.Author.Tests.{eqb-true, eqb-false, eq-eqb}
-use Rattle.base.specs.Pick.{pick}
 use Rattle.base.specs.Bytes.{SameBytes}
 use Rattle.base.proofs.Steps.{and-yes, true-or-false, cond-all, lt-or-ge}
 use Rattle.format.specs.Profile.{sameFile, firstDifference}

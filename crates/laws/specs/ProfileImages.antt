@@ -1,13 +1,17 @@
 -- The images that meet the lab profile, and where two files first differ. Request A11.
-use Prim.Native.Nat.{ℕ, _%_, _<_}
+use Prim.Native.Nat.{ℕ, _*_, _%_, _≤_, _<_}
 use mathlib.Core.Path.{_≡_}
 use mathlib.Core.List.{List}
 use mathlib.Core.Bool.{false}
 use lib.ListN.{length, getD}
 use Rattle.base.specs.Bytes.{SameBytes}
+use Rattle.format.specs.Geometry.{fileSectors}
 use Rattle.format.specs.Header.{headerOf}
 use Rattle.format.specs.Accepted.{Accepted}
 use Rattle.format.specs.Collapse.{normalForm}
+use Rattle.format.specs.Profile.{profile}
+use Rattle.format.specs.declared.Refusal.the-variants.{NotNormal}
+use Rattle.format.specs.declared.CheckAnswer.the-variants.{Refused}
 
 -- an image that meets the profile: it keeps every layout rule, is KDMV, uncompressed and clean, has the two sizes, and is its
 -- own normal form
@@ -30,3 +34,7 @@ pub data DifferAt (a b : List ℕ) (n : ℕ) : Type 0 where
 pub record FirstAt (a b : List ℕ) (n : ℕ) : Type 0 where
   pub alike : SameBytes a b 0 n
   pub differ : DifferAt a b n
+
+-- refused 42, with a place in the bytes from 512 x F on
+abbrev pub LatePlace : List ℕ → Type 0
+LatePlace s = (n : ℕ) × (profile s ≡ Refused (NotNormal n)) × (512 * fileSectors s ≤ n)
