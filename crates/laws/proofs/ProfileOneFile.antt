@@ -18,6 +18,7 @@ use Rattle.format.specs.Grains.{Grain, absent, zeroed, stored, clip, Whole}
 use Rattle.format.specs.Collapse.{mapOf, normalForm}
 use Rattle.format.specs.declared.Kind.the-variants.{Kdmv}
 use Rattle.format.specs.declared.Source.{Source}
+use Rattle.format.proofs.Geometry.{grain-of}
 use Rattle.laws.specs.Layers.{Layer, SameGrains}
 use Rattle.laws.specs.Served.{SameSource, absent as sameAbsent, zero as sameZero, stored as sameStored}
 use Rattle.laws.specs.MovedImages.{SameSector}
@@ -25,8 +26,9 @@ use Rattle.laws.specs.ProfileImages.{Meets}
 use Rattle.laws.proofs.LayoutNumbers.{some-size}
 use Rattle.laws.proofs.CollapsedMaps.{layout-same}
 use Rattle.laws.proofs.CollapsedLayers.{layer-sizes, map-fits}
-use Rattle.laws.proofs.CollapsedSectors.{sectorIn, Tells, tells-absent, tells-zero, tells-stored, layer-tells}
-use Rattle.laws.proofs.CollapsedImages.{normal-is}
+use Rattle.laws.proofs.CollapsedSectors.{sectorIn, Tells, tells-absent, tells-zero, tells-stored, told-same}
+use Rattle.laws.proofs.CollapsedSectors.{layer-tells}
+use Rattle.laws.proofs.CollapsedImages.{normal-is, normal-accepted, normal-map}
 use Rattle.laws.proofs.ProfileMet.{meets-layer}
 
 -- sources that are the same tell the same
@@ -93,7 +95,19 @@ module _ {c size : ℕ} {s t : List ℕ} (p : Layer c size s) (q : Layer c size 
   pub one-form : normalForm s ≡ normalForm t
   one-form = normal-is p ∙ layout-same Kdmv c size (mapOf s) (mapOf t) maps-same ∙ sym (normal-is q)
 
+-- and the normal form has them
+pub normal-same : {c size : ℕ} {s : List ℕ} → Layer c size s → (x : ℕ) → x < c → SameSector s (normalForm s) x
+normal-same {c} {size} p x low =
+    let g = grain-of c size (some-size (layer-sizes p)) x low in
+    told-same (layer-tells p x low) (rw (normal-map p (x / size) g) at (layer-tells (normal-accepted p) x low))
+
+-- ---- profile images
+-- the one profile image with an image's sectors is its normal form
+pub only-form : {c : ℕ} {s t : List ℕ} → Layer c 128 s → Meets t → headerOf t .capacity ≡ c
+    → ((x : ℕ) → x < c → SameSector s t x) → t ≡ normalForm s
+only-form p q same sectors = q .form ∙ sym (one-form p (rw same at (meets-layer q)) sectors)
+
 -- two profile images of one capacity whose sectors have the same kind of source and the same 512 bytes are the same file
 pub one-file : {s t : List ℕ} → Meets s → Meets t → headerOf s .capacity ≡ headerOf t .capacity
     → ((x : ℕ) → x < headerOf s .capacity → SameSector s t x) → s ≡ t
-one-file p q same sectors = p .form ∙ one-form (meets-layer p) (rw same (meets-layer q)) sectors ∙ sym (q .form)
+one-file p q same sectors = p .form ∙ sym (only-form (meets-layer p) q (sym same) sectors)
