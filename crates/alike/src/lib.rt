@@ -1,8 +1,7 @@
 // The first byte in which a lent slice differs from what is to stand there.
-ghost use mathlib.Core.Path.{_≡_};
 ghost use Prim.Native.Nat.{_+_, _≤_};
 ghost use lib.ListN.{length};
-ghost use Rattle.base.specs.Numbers.{leAt, leBytes};
+ghost use Rattle.base.specs.Numbers.{leBytes};
 ghost use Rattle.base.specs.Bytes.{zeros};
 ghost use Rattle.alike.specs.FirstOther.{FirstOther, BytesOf};
 

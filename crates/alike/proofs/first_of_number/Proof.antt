@@ -3,7 +3,6 @@ use borrow.Author.Needs.{needs}
 use Rattle.alike.proofs.first_of_number.Statement.{statement}
 use Rattle.alike.proofs.first_of_number.Tie as tie
 
-
 pub first-of-number-spec : {M : Type 1} → statement M
 first-of-number-spec =
     tie.close
