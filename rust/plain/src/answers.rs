@@ -30,7 +30,7 @@ pub fn outside(area: Outside) -> Refusal {
     }
 }
 
-/// The full check's answer.
+/// The answer of the full check and of the profile.
 #[derive(Clone, Copy, Debug, Default, PartialEq, Eq)]
 pub struct Verdict {
     pub number: u64,

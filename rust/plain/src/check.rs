@@ -9,7 +9,12 @@ pub type Sectors = (u64, u64);
 
 /// The public call.
 pub fn check(bytes: &[u8]) -> Verdict {
-    match accept(bytes) {
+    verdict(accept(bytes))
+}
+
+/// The answer in numbers.
+pub fn verdict(judged: Result<Image, Refusal>) -> Verdict {
+    match judged {
         Ok(image) => Verdict {
             capacity: image.header.capacity,
             grain_size: image.header.grain_size,
