@@ -14,7 +14,7 @@ macro_rules! answer {
 }
 
 answer! {
-    /// The full check's answer.
+    /// The full check's answer, and that of the lab profile.
     Verdict { number, place, capacity, grain_size }
 }
 answer! {
@@ -72,6 +72,7 @@ extern "C" {
         list: *mut u64,
         list_length: usize,
     ) -> Marked;
+    pub fn anhkhovet_profile(image: *const u8, length: usize) -> Verdict;
     pub fn anhkhovet_header(image: *const u8, length: usize) -> Head;
     pub fn anhkhovet_lookup(image: *const u8, length: usize, sector: u64) -> Located;
     pub fn anhkhovet_chain(

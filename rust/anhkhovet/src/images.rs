@@ -1,4 +1,4 @@
-//! Whole images: the full check and the header.
+//! Whole images: the full check, the lab profile and the header.
 
 use crate::{raw, Refusal};
 
@@ -40,7 +40,26 @@ impl Header {
 ///
 #[doc = concat!("```\n", include_str!("../examples/check.rs"), "```")]
 pub fn check(image: &[u8]) -> Result<Disk, Refusal> {
-    let verdict = raw::check(image);
+    disk(raw::check(image))
+}
+
+/// Whether an image meets the lab profile, the one form of what is published: accepted KDMV, uncompressed, clean, with grain size
+/// 128 and a capacity that is a multiple of 128, and equal to its own [`normal`](crate::normal) form in every byte and in length.
+///
+/// A [`collapse`](crate::collapse) of two such images of one capacity meets it too.
+///
+/// Refusals: 1 to 12 as the check has them, 23 for COWD and packed images, 27 where the disk was still open, 47 for grain size or
+/// capacity, 42 with the first byte that differs from the normal form; where one is a start of the other that is the shorter length.
+/// The stored grains of an image are not read.
+///
+/// It needs [`STACK`](crate::STACK) bytes of stack.
+///
+#[doc = concat!("```\n", include_str!("../examples/profile.rs"), "```")]
+pub fn profile(image: &[u8]) -> Result<Disk, Refusal> {
+    disk(raw::profile(image))
+}
+
+fn disk(verdict: raw::Verdict) -> Result<Disk, Refusal> {
     Refusal::unless_zero(verdict.number, verdict.place)?;
     Ok(Disk {
         capacity: verdict.capacity,

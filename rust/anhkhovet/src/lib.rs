@@ -5,7 +5,7 @@
 //! calls of [`raw`] give the same answers as plain numbers, with no list of their own.
 //!
 //! - [`check`] judges a whole image, and [`check_in`] does so in memory that is lent; [`header`] judges its header alone, and
-//!   [`frame`] lists what of it is no grain.
+//!   [`frame`] lists what of it is no grain. [`profile`] judges whether a whole image has the one form of what is published.
 //! - [`survey`] judges many images and counts their grains.
 //! - [`lookup`] says where a sector comes from, [`chain`] the same for layers on top of each other, and [`read`] hands over
 //!   its bytes.
@@ -20,12 +20,12 @@
 //!
 //! # Stack
 //!
-//! Eight calls keep a mark for each of some eight million sectors on the stack: [`check`], and [`survey`], [`normal`],
-//! [`collapse`], [`to_kdmv`], [`to_cowd`], [`split`] and [`mend`], which check. A thread that makes one of them needs [`STACK`]
-//! bytes for it beside what it uses itself, or the process ends at the guard below its stack, with nothing overwritten. A main
-//! thread has 8 MiB unless `ulimit -s` says less, and a thread of Rust's 2 MiB unless it is asked for less. Every other call does
-//! with less than 16 KiB, and none of them calls itself: so [`check_in`], which is [`check`] with its marks in a list of the
-//! caller's, runs in a small fixed space.
+//! Nine calls keep a mark for each of some eight million sectors on the stack: [`check`], and [`profile`], [`survey`],
+//! [`normal`], [`collapse`], [`to_kdmv`], [`to_cowd`], [`split`] and [`mend`], which check. A thread that makes one of them needs
+//! [`STACK`] bytes for it beside what it uses itself, or the process ends at the guard below its stack, with nothing overwritten.
+//! A main thread has 8 MiB unless `ulimit -s` says less, and a thread of Rust's 2 MiB unless it is asked for less. Every other
+//! call does with less than 16 KiB, and none of them calls itself: so [`check_in`], which is [`check`] with its marks in a list of
+//! the caller's, runs in a small fixed space.
 //!
 //! # The archive
 //!
@@ -48,7 +48,7 @@ mod writing;
 
 pub use areas::{frame, Area, Group};
 pub use disks::{split, Placed, SplitRefusal};
-pub use images::{check, header, Disk, Header};
+pub use images::{check, header, profile, Disk, Header};
 pub use marks::{check_in, words_needed, Marked, MarkedRefusal};
 pub use mending::{changes, mend, Change, Side, CHANGE};
 pub use refusal::{ChainRefusal, Counted, MisplacedPart, Refusal};

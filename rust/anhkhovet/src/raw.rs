@@ -1,5 +1,5 @@
 //! The calls with their answers as document 01's numbers: number 0 is an answer, and what does not apply is 0. The place of 8 is 1
-//! to 5, as [`MisplacedPart`](crate::MisplacedPart) has the parts.
+//! to 5, as [`MisplacedPart`](crate::MisplacedPart) has the parts; that of 42 is a byte of the file.
 //!
 //! Each `unsafe` below rests on the same ground: a slice's pointer and count describe memory that is lent for the call,
 //! shared or exclusive as the slice is, and the library keeps neither. Lent bytes stand still for the call, as Rust asks of every
@@ -28,6 +28,14 @@ pub fn check(image: &[u8]) -> Verdict {
 pub fn check_in(image: &[u8], list: &mut [u64]) -> Marked {
     // SAFETY: see the top of the file.
     unsafe { face::anhkhovet_check_in(image.as_ptr(), image.len(), list.as_mut_ptr(), list.len()) }
+}
+
+/// Whether an image meets the lab profile: refusals 1 to 12 as the check has them, 23, 27, 47, 42, or capacity and grain size.
+///
+/// It needs [`STACK`](crate::STACK) bytes of stack.
+pub fn profile(image: &[u8]) -> Verdict {
+    // SAFETY: see the top of the file.
+    unsafe { face::anhkhovet_profile(image.as_ptr(), image.len()) }
 }
 
 /// The header alone: refusals 1 to 7.

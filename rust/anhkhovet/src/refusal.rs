@@ -6,10 +6,10 @@ use std::fmt;
 /// A refusal by document 01's rules. Shown, it is its number, its place where that counts something, and a sentence.
 #[derive(Clone, Copy, Debug, PartialEq, Eq, Hash)]
 pub struct Refusal {
-    /// Document 01's number: 1 to 12 of an image, 20 to 24, 27, 40 and 44 of what is asked, 30 to 36 of a text, 38, 39 and 45
-    /// of an extent.
+    /// Document 01's number: 1 to 12 of an image, 20 to 24, 27, 40, 42, 44 and 47 of what is asked, 30 to 36 of a text, 38, 39
+    /// and 45 of an extent.
     pub number: u64,
-    /// The part, the grain or the line at fault, as [`Refusal::counted`] says, else 0.
+    /// The part, the grain, the byte or the line at fault, as [`Refusal::counted`] says, else 0.
     pub place: u64,
 }
 
@@ -39,6 +39,8 @@ pub enum Counted {
     Part(MisplacedPart),
     /// Grains of the image, from 0.
     Grain,
+    /// Bytes of the file, from 0.
+    Byte,
     /// Lines of the text, from 1.
     Line,
     /// The place is 0 and says nothing.
@@ -110,6 +112,7 @@ impl Refusal {
         }
         match self.number {
             9 | 10 => Counted::Grain,
+            42 => Counted::Byte,
             32..=34 if self.place > 0 => Counted::Line,
             _ => Counted::Nothing,
         }
@@ -139,7 +142,7 @@ impl Refusal {
             20 => "the sector is at or past the end of the disk",
             21 => "the output or the list is too short for the result",
             22 => "the images do not have the same capacity and grain size",
-            23 => "collapse and normal form take no COWD image, a move takes the other kind, and none of them a compressed image",
+            23 => "collapse, normal form and the lab profile take no COWD image, a move takes the other kind, and none of them a compressed image",
             24 => "a chain has 1 to 16 layers, a survey 1 to 1,024 images, a disk of several files one for each extent",
             27 => "the disk was still open when it was copied: shut the machine down and copy it again",
             30 => "the first line is not \"# Disk DescriptorFile\"",
@@ -158,8 +161,10 @@ impl Refusal {
                 "the image cannot be mended from that side: it has one directory only, its two directories name tables in \
                  different places, header, footer, directories or tables share a sector, or it would still be refused"
             }
+            42 => "from here on the file is not its own normal form",
             44 => "a grain of under 8 sectors has no place in KDMV, and a grain marked as zeros none in COWD",
             45 => "the file is not of its extent's type, or is too short for its sectors",
+            47 => "the lab profile has grains of 128 sectors and a capacity that is a multiple of 128",
             _ => "a rule of the format is broken",
         }
     }
@@ -180,6 +185,7 @@ impl fmt::Display for Refusal {
         write!(to, "refused {}", self.number)?;
         match self.counted() {
             Counted::Grain => write!(to, " at grain {}", self.place)?,
+            Counted::Byte => write!(to, " at byte {}", self.place)?,
             Counted::Line => write!(to, " at line {}", self.place)?,
             // The sentence has the part.
             Counted::Part(_) | Counted::Nothing => {}

@@ -187,6 +187,7 @@ fn words_of_refusals() {
     assert_eq!((line, line.counted()), (refused(32, 3), Counted::Line));
     assert_eq!(refused(10, 0).counted(), Counted::Grain);
     assert_eq!(refused(33, 0).counted(), Counted::Nothing);
+    assert_eq!(refused(42, 0).counted(), Counted::Byte);
     assert_eq!(
         line.to_string(),
         "refused 32 at line 3: the line is neither an extent nor of the form key = value"
@@ -194,7 +195,7 @@ fn words_of_refusals() {
     let numbers = (1..=12)
         .chain(20..=24)
         .chain(30..=36)
-        .chain([27, 38, 39, 40, 44, 45]);
+        .chain([27, 38, 39, 40, 42, 44, 45, 47]);
     let mut sentences: Vec<&str> = numbers
         .map(|number| refused(number, 1).sentence())
         .collect();

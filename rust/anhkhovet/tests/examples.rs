@@ -37,6 +37,7 @@ examples! {
     mend "mend.rs"
     misplaced "misplaced.rs"
     normal "normal.rs"
+    profile "profile.rs"
     read "read.rs"
     split "split.rs"
     stack "stack.rs"

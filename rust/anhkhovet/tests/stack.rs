@@ -1,8 +1,8 @@
 //! Each call on a thread with the stack that the documentation states, and images that all of them go through to the end.
 
 use anhkhovet::{
-    chain, check, check_in, collapse, descriptor, find, frame, header, lookup, mend, normal, raw,
-    read, split, survey, to_cowd, to_kdmv, words_needed, Side, STACK,
+    chain, check, check_in, collapse, descriptor, find, frame, header, lookup, mend, normal,
+    profile, raw, read, split, survey, to_cowd, to_kdmv, words_needed, Side, STACK,
 };
 use std::{fs, thread};
 
@@ -39,6 +39,19 @@ fn calls_that_check() {
     on(STACK, move || {
         assert!(normal(&lower, &mut out).is_ok());
         assert!(collapse(&lower, &upper, &mut out).is_ok());
+    });
+}
+
+#[test]
+fn the_profile() {
+    let image = sample("tool-base");
+    let mut form = vec![0; 2 * image.len()];
+    on(STACK, move || {
+        let length = normal(&image, &mut form).unwrap() as usize;
+        form.truncate(length);
+        assert!(profile(&form).is_ok());
+        form.push(0);
+        assert!(profile(&form).is_err());
     });
 }
 

@@ -10,12 +10,13 @@ const OF_KDMV: &[Call] = &[Check, CheckIn, Header, Frame, Survey, Mend];
 
 /// Calls that judge all parts of an image.
 const OF_PARTS: &[Call] = &[
-    Check, CheckIn, Frame, Survey, Mend, Normal, Collapse, ToKdmv, ToCowd, Split,
+    Check, CheckIn, Profile, Frame, Survey, Mend, Normal, Collapse, ToKdmv, ToCowd, Split,
 ];
 
 /// The same, and those that judge the directory and the sector's own table alone.
 const OF_TABLES: &[Call] = &[
-    Check, CheckIn, Frame, Survey, Mend, Normal, Collapse, ToKdmv, ToCowd, Split, Lookup, Chain,
+    Check, CheckIn, Profile, Frame, Survey, Mend, Normal, Collapse, ToKdmv, ToCowd, Split, Lookup,
+    Chain,
 ];
 
 /// The calls that write.
@@ -25,6 +26,9 @@ const WRITES: &[Call] = &[
 
 /// The calls that write images of clean ones.
 const CLEAN: &[Call] = &[Normal, Collapse, ToKdmv, ToCowd];
+
+/// The calls that take clean images.
+const OF_CLEAN: &[Call] = &[Profile, Normal, Collapse, ToKdmv, ToCowd];
 
 /// Both moves.
 const MOVES: &[Call] = &[ToKdmv, ToCowd];
@@ -95,11 +99,11 @@ pub const ANSWERS: &[(&str, &[Call])] = &[
     ("27, lower alone", &[Collapse]),
     ("27, upper alone", &[Collapse]),
     ("27, both", &[Collapse]),
-    ("27, other than 1", CLEAN),
+    ("27, other than 1", OF_CLEAN),
     ("27, 21 too", CLEAN),
     ("27, room enough", CLEAN),
-    ("8 to 12, 27 too", CLEAN),
-    ("23, 27 too", CLEAN),
+    ("8 to 12, 27 too", OF_CLEAN),
+    ("23, 27 too", OF_CLEAN),
     ("22, 27 too", &[Collapse]),
     // Request A6: by the first area that meets an earlier one, by F and the list's length, and by what the list held.
     ("12, directory", &[CheckIn]),
@@ -185,7 +189,7 @@ pub const ANSWERS: &[(&str, &[Call])] = &[
     ("moved, with a gap", MOVES),
     ("moved, normal form", MOVES),
     ("23, the other kind", MOVES),
-    ("23, packed", MOVES),
+    ("23, packed", &[Profile, ToKdmv, ToCowd]),
     ("23, 44 too", &[ToCowd]),
     ("27, 44 too", MOVES),
     ("44, 21 too", MOVES),
@@ -197,6 +201,40 @@ pub const ANSWERS: &[(&str, &[Call])] = &[
     ("44, last grain alone", &[ToCowd]),
     ("21, a byte short", MOVES),
     ("21, no grain fits", MOVES),
+    // Request A11: by what meets it, by the part that the first differing byte stands in, and where two refusals would hold.
+    ("met, no grain", &[Profile]),
+    ("met, stored grains", &[Profile]),
+    ("met, zero grains", &[Profile]),
+    ("met, n above 1", &[Profile]),
+    ("met, long directory", &[Profile]),
+    ("42, version", &[Profile]),
+    ("42, flags", &[Profile]),
+    ("42, descriptor", &[Profile]),
+    ("42, redundant", &[Profile]),
+    ("42, directory sector", &[Profile]),
+    ("42, overhead", &[Profile]),
+    ("42, padding", &[Profile]),
+    ("42, directory entry", &[Profile]),
+    ("42, unused directory", &[Profile]),
+    ("42, table entry", &[Profile]),
+    ("42, unused entry", &[Profile]),
+    ("42, inside an entry", &[Profile]),
+    ("42, gap", &[Profile]),
+    ("42, cut in the gap", &[Profile]),
+    ("42, a byte more", &[Profile]),
+    ("42, bytes more", &[Profile]),
+    ("42, a sector more", &[Profile]),
+    ("42, sectors more", &[Profile]),
+    ("47, grain size", &[Profile]),
+    ("47, capacity", &[Profile]),
+    ("47, both", &[Profile]),
+    ("47, normal form", &[Profile]),
+    ("23, COWD", &[Profile]),
+    ("23, 47 too", &[Profile]),
+    ("23, sizes met", &[Profile]),
+    ("27, 47 too", &[Profile]),
+    ("27, sizes met", &[Profile]),
+    ("8 to 12, 47 too", &[Profile]),
 ];
 
 /// The refusals of documents 01 and 02, with the calls that can give them, a survey in its rows too; 37 is the program's own.
@@ -204,6 +242,7 @@ pub fn gives(number: u64, call: Call) -> bool {
     match call {
         Check => (1..=12).contains(&number),
         CheckIn => (1..=12).contains(&number) || number == 21,
+        Profile => (1..=12).contains(&number) || [23, 27, 42, 47].contains(&number),
         Header => (1..=7).contains(&number),
         Lookup => (1..=10).contains(&number) || number == 20,
         Chain => (1..=10).contains(&number) || [20, 22, 24].contains(&number),

@@ -8,6 +8,7 @@ use plain::{
 pub trait Side {
     fn check(&self, image: &[u8]) -> Verdict;
     fn check_in(&self, image: &[u8], list: &mut [u64]) -> Marked;
+    fn profile(&self, image: &[u8]) -> Verdict;
     fn header(&self, image: &[u8]) -> Head;
     fn lookup(&self, image: &[u8], sector: u64) -> Located;
     fn chain(&self, layers: &[u8], lengths: &[u64], sector: u64) -> Located;
@@ -39,6 +40,9 @@ impl Side for Plain {
     }
     fn check_in(&self, image: &[u8], list: &mut [u64]) -> Marked {
         plain::check_in(image, list)
+    }
+    fn profile(&self, image: &[u8]) -> Verdict {
+        plain::profile(image)
     }
     fn header(&self, image: &[u8]) -> Head {
         plain::header(image)
@@ -114,6 +118,9 @@ mod proved {
         }
         fn check_in(&self, image: &[u8], list: &mut [u64]) -> Marked {
             same!(raw::check_in(image, list) => Marked { number, place, capacity, grain_size, marked })
+        }
+        fn profile(&self, image: &[u8]) -> Verdict {
+            same!(raw::profile(image) => Verdict { number, place, capacity, grain_size })
         }
         fn header(&self, image: &[u8]) -> Head {
             same!(raw::header(image) => Head { number, place, capacity, grain_size, descriptor, descriptor_sectors, dirty })

@@ -8,6 +8,7 @@ use std::fmt::{self, Write};
 pub enum Call {
     Check,
     CheckIn,
+    Profile,
     Header,
     Lookup,
     Chain,
@@ -26,9 +27,10 @@ pub enum Call {
 
 use Call::*;
 
-const CALLS: [(Call, &str); 16] = [
+const CALLS: [(Call, &str); 17] = [
     (Check, "check"),
     (CheckIn, "check_in"),
+    (Profile, "profile"),
     (Header, "header"),
     (Lookup, "lookup"),
     (Chain, "chain"),
@@ -52,7 +54,7 @@ impl Call {
     }
 }
 
-const NUMBERS: u64 = 46;
+const NUMBERS: u64 = 48;
 
 /// A row's count in each call's column.
 type Counts = [u64; CALLS.len()];

@@ -8,6 +8,7 @@ mod miscounts;
 mod moves;
 mod ones;
 mod places;
+mod profiles;
 mod splits;
 
 use compare::cases::run_cases;
@@ -20,81 +21,32 @@ use plain::{
 };
 use std::path::PathBuf;
 
-/// The plain side with one mistake.
-#[derive(Clone, Copy, Debug, PartialEq)]
-enum Mistake {
-    None,
-    OverlapAccepted,
-    PlaceOfFirstGrain,
-    DescriptorNumbersSwapped,
-    PackedOffsetForgotten,
-    ZerosByVersion,
-    ZerosByFlag,
-    ZerosInTablesOnly,
-    ZerosInCowd,
-    OldZerosIn11,
-    FlagInVersion1,
-    ZeroAsksTheParent,
-    LengthsThatWrap,
-    ShortPart,
-    LastGrainLeftOut,
-    EntryAsOneGrain,
-    RefusedInTotals,
-    NumberAtItsOwnWord,
-    TallyAddedTo,
-    ListsBefore21,
-    WordPastTheRows,
-    SumThatWraps,
-    OneImageTooMany,
-    BytePastTheResult,
-    ByteOnRefusal,
-    LowerOverUpper,
-    RecordPastTheLast,
-    RecordOnRefusal,
-    LineFromZero,
-    EndThatWraps,
-    Split(splits::Mistake),
-    Dirty(dirty::Mistake),
-    Marks(marks::Mistake),
-    Frames(frames::Mistake),
-    Mends(mends::Mistake),
-    Moves(moves::Mistake),
+/// The plain side with one mistake, of this file or of a module's.
+macro_rules! mistakes {
+    ($($name:ident)* $(; $of:ident $module:ident)*) => {
+        #[derive(Clone, Copy, Debug, PartialEq)]
+        enum Mistake {
+            None,
+            $($name,)*
+            $($of($module::Mistake),)*
+        }
+
+        use Mistake::*;
+
+        /// Those of this file.
+        const ALL: &[Mistake] = &[$($name),*];
+    };
 }
 
-use Mistake::*;
-
-/// Those of this file.
-const ALL: [Mistake; 29] = [
-    OverlapAccepted,
-    PlaceOfFirstGrain,
-    DescriptorNumbersSwapped,
-    PackedOffsetForgotten,
-    ZerosByVersion,
-    ZerosByFlag,
-    ZerosInTablesOnly,
-    ZerosInCowd,
-    OldZerosIn11,
-    FlagInVersion1,
-    ZeroAsksTheParent,
-    LengthsThatWrap,
-    ShortPart,
-    LastGrainLeftOut,
-    EntryAsOneGrain,
-    RefusedInTotals,
-    NumberAtItsOwnWord,
-    TallyAddedTo,
-    ListsBefore21,
-    WordPastTheRows,
-    SumThatWraps,
-    OneImageTooMany,
-    BytePastTheResult,
-    ByteOnRefusal,
-    LowerOverUpper,
-    RecordPastTheLast,
-    RecordOnRefusal,
-    LineFromZero,
-    EndThatWraps,
-];
+mistakes! {
+    OverlapAccepted PlaceOfFirstGrain DescriptorNumbersSwapped PackedOffsetForgotten
+    ZerosByVersion ZerosByFlag ZerosInTablesOnly ZerosInCowd OldZerosIn11 FlagInVersion1
+    ZeroAsksTheParent LengthsThatWrap ShortPart LastGrainLeftOut EntryAsOneGrain RefusedInTotals
+    NumberAtItsOwnWord TallyAddedTo ListsBefore21 WordPastTheRows SumThatWraps OneImageTooMany
+    BytePastTheResult ByteOnRefusal LowerOverUpper RecordPastTheLast RecordOnRefusal
+    LineFromZero EndThatWraps
+    ; Split splits ; Dirty dirty ; Marks marks ; Frames frames ; Mends mends ; Moves moves ; Profiles profiles
+}
 
 impl Side for Mistake {
     fn check(&self, image: &[u8]) -> Verdict {
@@ -116,6 +68,13 @@ impl Side for Mistake {
         match self {
             Marks(mistake) => mistake.check_in(image, list),
             _ => Plain.check_in(image, list),
+        }
+    }
+
+    fn profile(&self, image: &[u8]) -> Verdict {
+        match self {
+            Profiles(mistake) => mistake.profile(image),
+            _ => Plain.profile(image),
         }
     }
 
@@ -268,7 +227,8 @@ fn each_mistake_is_caught() {
     let others = others.chain(frames::ALL.map(Frames));
     let others = others.chain(mends::ALL.iter().copied().map(Mends));
     let others = others.chain(moves::ALL.iter().copied().map(Moves));
-    for mistake in ALL.into_iter().chain(others) {
+    let others = others.chain(profiles::ALL.iter().copied().map(Profiles));
+    for mistake in ALL.iter().copied().chain(others) {
         // Few cases catch most, and as many as the gate runs the others.
         let caught = |count| {
             let tally = tally(&mistake, count);
@@ -285,13 +245,15 @@ fn the_plain_side_agrees_with_itself_and_reaches_every_place() {
     assert!(tally.good(), "{tally}");
 }
 
-/// Sectors marked are those of frame and lookups, mending that of frame and check, moves those of check and lookups.
+/// Sectors marked are those of frame and lookups, mending that of frame and check, moves those of check and lookups, the profile
+/// that of check and normal form.
 #[test]
 fn what_is_made_anew_agrees() {
     let marks = Marks(marks::Mistake::Recounted);
     let mends = Mends(mends::Mistake::Remade);
     let moves = Moves(moves::Mistake::Remade);
-    for remade in [moves, marks, mends] {
+    let profiles = Profiles(profiles::Mistake::Remade);
+    for remade in [moves, marks, mends, profiles] {
         assert_eq!(tally(&remade, 50_000).differences, 0, "{remade:?}");
     }
 }

@@ -55,10 +55,11 @@ const ALL: [(Mistake, &[Call]); 16] = [
 ];
 
 const OF_PARTS: &[Call] = &[
-    Check, CheckIn, Frame, Survey, Mend, Normal, Collapse, ToKdmv, ToCowd, Split,
+    Check, CheckIn, Profile, Frame, Survey, Mend, Normal, Collapse, ToKdmv, ToCowd, Split,
 ];
 const OF_TABLES: &[Call] = &[
-    Check, CheckIn, Frame, Survey, Mend, Normal, Collapse, ToKdmv, ToCowd, Split, Lookup, Chain,
+    Check, CheckIn, Profile, Frame, Survey, Mend, Normal, Collapse, ToKdmv, ToCowd, Split, Lookup,
+    Chain,
 ];
 
 impl Mistake {
@@ -140,17 +141,26 @@ fn walked<'a>(layers: &'a [u8], lengths: &[u64], located: Located) -> Vec<(u64, 
     met
 }
 
+/// The answer on one image of a call that judges all parts.
+macro_rules! placed {
+    ($self:ident, $call:ident, $image:ident, $plain:expr => $answer:ident) => {{
+        let plain = $plain;
+        let place = $self.place(plain.number, plain.place, $image);
+        $self.told($call, plain, $answer { place, ..plain })
+    }};
+}
+
 impl Side for Wrong {
     fn check(&self, image: &[u8]) -> Verdict {
-        let plain = Plain.check(image);
-        let place = self.place(plain.number, plain.place, image);
-        self.told(Check, plain, Verdict { place, ..plain })
+        placed!(self, Check, image, Plain.check(image) => Verdict)
     }
 
     fn check_in(&self, image: &[u8], list: &mut [u64]) -> Marked {
-        let plain = Plain.check_in(image, list);
-        let place = self.place(plain.number, plain.place, image);
-        self.told(CheckIn, plain, Marked { place, ..plain })
+        placed!(self, CheckIn, image, Plain.check_in(image, list) => Marked)
+    }
+
+    fn profile(&self, image: &[u8]) -> Verdict {
+        placed!(self, Profile, image, Plain.profile(image) => Verdict)
     }
 
     fn header(&self, image: &[u8]) -> Head {
@@ -193,9 +203,7 @@ impl Side for Wrong {
     }
 
     fn frame(&self, image: &[u8], list: &mut [u64]) -> Framed {
-        let plain = Plain.frame(image, list);
-        let place = self.place(plain.number, plain.place, image);
-        self.told(Frame, plain, Framed { place, ..plain })
+        placed!(self, Frame, image, Plain.frame(image, list) => Framed)
     }
 
     fn survey(
@@ -217,27 +225,19 @@ impl Side for Wrong {
     }
 
     fn mend(&self, image: &mut [u8], good: u64, changes: &mut [u64]) -> Mended {
-        let plain = Plain.mend(image, good, changes);
-        let place = self.place(plain.number, plain.place, image);
-        self.told(Mend, plain, Mended { place, ..plain })
+        placed!(self, Mend, image, Plain.mend(image, good, changes) => Mended)
     }
 
     fn normal(&self, image: &[u8], out: &mut [u8]) -> Written {
-        let plain = Plain.normal(image, out);
-        let place = self.place(plain.number, plain.place, image);
-        self.told(Normal, plain, Written { place, ..plain })
+        placed!(self, Normal, image, Plain.normal(image, out) => Written)
     }
 
     fn to_kdmv(&self, image: &[u8], out: &mut [u8]) -> Written {
-        let plain = Plain.to_kdmv(image, out);
-        let place = self.place(plain.number, plain.place, image);
-        self.told(ToKdmv, plain, Written { place, ..plain })
+        placed!(self, ToKdmv, image, Plain.to_kdmv(image, out) => Written)
     }
 
     fn to_cowd(&self, image: &[u8], out: &mut [u8]) -> Written {
-        let plain = Plain.to_cowd(image, out);
-        let place = self.place(plain.number, plain.place, image);
-        self.told(ToCowd, plain, Written { place, ..plain })
+        placed!(self, ToCowd, image, Plain.to_cowd(image, out) => Written)
     }
 
     fn collapse(&self, lower: &[u8], upper: &[u8], out: &mut [u8]) -> Written {
