@@ -14,7 +14,7 @@ mod moves;
 mod ones;
 pub mod pairs;
 pub mod places;
-mod profiles;
+pub mod profiles;
 pub mod rng;
 pub mod run;
 mod sectors;

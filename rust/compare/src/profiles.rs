@@ -33,6 +33,14 @@ impl Run<'_> {
     }
 }
 
+/// The part that 42's place is in.
+pub fn part(image: &[u8], place: usize) -> &'static str {
+    match Front::of(image).row(place, image.len()) {
+        row if row.ends_with(" more") => "42, more",
+        row => row,
+    }
+}
+
 /// Rows, and whether they hold.
 type Rows = Vec<(&'static str, bool)>;
 

@@ -24,7 +24,7 @@ fn stored_files() {
 #[test]
 fn small_input() {
     let input = std::fs::read(root().join("crates/cases/stdin")).unwrap();
-    assert!(input.len() <= 2_450_000, "{} bytes", input.len());
+    assert!(input.len() <= 2_950_000, "{} bytes", input.len());
 }
 
 /// The stored surveys have images of each refusal number of the check.
@@ -71,7 +71,10 @@ fn every_place_of_8() {
             .filter_map(|line| line.split(' ').nth(place))
             .collect()
     };
-    for call in ["check", "check_in", "frame", "mend", "normal", "collapse"] {
+    let calls = [
+        "check", "check_in", "profile", "frame", "mend", "normal", "collapse",
+    ];
+    for call in calls {
         assert!(told(call, 0).into_iter().eq(PLACES), "{call}");
     }
     assert!(told("split", 1).into_iter().eq(PLACES));
@@ -99,6 +102,10 @@ fn every_refusal() {
     let wanted = [
         ("check", check.clone()),
         ("check_in", check.iter().copied().chain([21]).collect()),
+        (
+            "profile",
+            check.iter().copied().chain([23, 27, 42, 47]).collect(),
+        ),
         ("header", (0..=7).collect()),
         ("lookup", (0..=10).chain([20]).collect()),
         ("chain", (0..=10).chain([20, 22, 24]).collect()),

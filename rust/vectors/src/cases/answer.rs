@@ -1,10 +1,10 @@
 //! The lines that the program prints for a case: a call and the numbers of its answer.
 
-use super::{Case, CHAIN, CHECK_IN, COLLAPSE, FIND, FRAME, IMAGE, MEND, MOVE, SPLIT, SURVEY, TEXT};
-use super::{MOST_ROWS, MOST_WORDS, SEARCHED, SHORT, SHORT_TALLY, TALLY};
+use super::{Case, CHAIN, CHECK_IN, COLLAPSE, FIND, FRAME, IMAGE, MEND, MOVE, PROFILE, SPLIT};
+use super::{MOST_ROWS, MOST_WORDS, SEARCHED, SHORT, SHORT_TALLY, SURVEY, TALLY, TEXT};
 use crate::input::Input;
 use crate::numbers::{described, digest, extent, found, handed_over, line, located};
-use plain::{Extent, Refusal, Written};
+use plain::{Extent, Refusal, Verdict, Written};
 
 impl Case {
     pub fn lines(&self) -> Vec<String> {
@@ -20,6 +20,7 @@ impl Case {
                 self.moved_line("to_kdmv ", plain::to_kdmv),
                 self.moved_line("to_cowd ", plain::to_cowd),
             ],
+            PROFILE => vec![verdict_line("profile ", plain::profile(&self.bytes))],
             _ => Vec::new(),
         };
         for sector in &self.sectors {
@@ -51,9 +52,7 @@ impl Case {
 
     fn image_lines(&self) -> Vec<String> {
         let image = &self.bytes;
-        let v = plain::check(image);
         let h = plain::header(image);
-        let check = [v.number, v.place, v.capacity, v.grain_size];
         let header = [
             h.number,
             h.place,
@@ -65,7 +64,7 @@ impl Case {
         ];
         let result = plain::normal(image, self.room as usize);
         vec![
-            line("check ", &check),
+            verdict_line("check ", plain::check(image)),
             line("header ", &header),
             self.written_line("normal ", result),
         ]
@@ -167,6 +166,10 @@ impl Case {
         let mut input = Input::new(&self.bytes);
         (0..SEARCHED).map(|_| read_extent(&mut input)).collect()
     }
+}
+
+fn verdict_line(call: &str, v: Verdict) -> String {
+    line(call, &[v.number, v.place, v.capacity, v.grain_size])
 }
 
 /// The collapse in every order of pairing neighbours, whose outputs on the way have 65,536 bytes: a refused one leaves none.

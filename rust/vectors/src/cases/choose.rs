@@ -1,10 +1,12 @@
 //! Which cases are stored: real images from samples, and generated ones that reach each answer of each call.
 
 use super::record::Recorder;
-use super::{Case, CHECK_IN, FIND, FRAME, IMAGE, MEND, MOST_WORDS, MOVE, SPLIT, SURVEY, TEXT};
+use super::{Case, CHECK_IN, FIND, FRAME, IMAGE, MEND, MOST_WORDS, MOVE, PROFILE};
+use super::{SPLIT, SURVEY, TEXT};
 use compare::cases::case;
 use compare::marks::that_meets;
 use compare::mends::rows;
+use compare::profiles::part;
 use compare::rng::Rng;
 use compare::run::Run;
 use compare::side::Plain;
@@ -87,7 +89,7 @@ fn wanted(case: &Case, answer: &str) -> u64 {
         (true, _) => 15,
         // By its place one is enough.
         _ if answer.contains(" 8 at ") => 1,
-        (false, _) if [SURVEY, SPLIT, CHECK_IN, MEND, MOVE].contains(&case.asked) => 1,
+        (false, _) if [SURVEY, SPLIT, CHECK_IN, MEND, MOVE, PROFILE].contains(&case.asked) => 1,
         (false, true) => 2,
         // By all its groups, by its dirty number, or at sector 1, one is enough.
         (false, false) if case.asked == FRAME || answer.ends_with("at 1") => 1,
@@ -121,6 +123,8 @@ fn fits(case: &Case) -> bool {
         TEXT | FIND => 4 << 10,
         // A COWD image with a grain of 8 sectors.
         MOVE => 24 << 10,
+        // What meets the profile has no byte less, and may have some more.
+        PROFILE => 65 << 10,
         _ => 20 << 10,
     };
     let short = case.lengths.len() <= MOST_LAYERS && case.room <= MOST_ROOM;
@@ -158,7 +162,7 @@ fn kind(case: &Case, line: &str) -> String {
     match call {
         "record" => call.to_string(),
         "lookup" | "chain" | "split" if number == "8" => format!("{call} 8 at {}", words[3]),
-        "check" | "check_in" | "frame" | "normal" | "collapse" if number == "8" => {
+        "check" | "check_in" | "profile" | "frame" | "normal" | "collapse" if number == "8" => {
             format!("{call} 8 at {}", words[2])
         }
         // By what an entry of 1 is, or flag 0x4 in version 1.
@@ -178,6 +182,10 @@ fn kind(case: &Case, line: &str) -> String {
             format!("{call} {number} {} {cowd} {at_1}", words[4])
         }
         "chain" | "split" => format!("{call} {number} {}", words[4]),
+        "profile" if number == "42" => {
+            let place = words[2].parse().unwrap_or(0);
+            format!("{call} {number} {}", part(&case.bytes, place))
+        }
         "to_kdmv" | "to_cowd" if number == "0" => moved(case, call, words[3]),
         "to_kdmv" | "to_cowd" if number == "44" => {
             // By the grain size, or by a zero grain.

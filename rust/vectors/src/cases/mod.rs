@@ -37,6 +37,8 @@ const CHECK_IN: u64 = 9;
 const MEND: u64 = 10;
 /// Both moves, each into an output whose length is the room.
 const MOVE: u64 = 11;
+/// The lab profile.
+const PROFILE: u64 = 12;
 
 const SEARCHED: usize = 32;
 const MOST_WORDS: usize = 96;

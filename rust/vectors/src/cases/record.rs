@@ -1,8 +1,8 @@
 //! The generators of `compare`, listened to: a side that keeps what it is asked and answers as the plain one does.
 
 use super::{
-    Case, CHAIN, CHECK_IN, COLLAPSE, FIND, FRAME, IMAGE, MEND, MOVE, SEARCHED, SHORT, SHORT_TALLY,
-    SPLIT, SURVEY, TEXT,
+    Case, CHAIN, CHECK_IN, COLLAPSE, FIND, FRAME, IMAGE, MEND, MOVE, PROFILE, SEARCHED, SHORT,
+    SHORT_TALLY, SPLIT, SURVEY, TEXT,
 };
 use crate::numbers::extent;
 use compare::side::{Plain, Side};
@@ -73,6 +73,10 @@ impl Side for Recorder {
     fn check_in(&self, image: &[u8], list: &mut [u64]) -> Marked {
         self.lent(CHECK_IN, image, list.len());
         Plain.check_in(image, list)
+    }
+    fn profile(&self, image: &[u8]) -> Verdict {
+        self.lent(PROFILE, image, 0);
+        Plain.profile(image)
     }
     fn header(&self, image: &[u8]) -> Head {
         self.image(image, &[]);
