@@ -6,8 +6,8 @@ use format::Head;
 use format::Verdict;
 
 // Number, place, capacity, grain size.
-fn put_verdict(v: Verdict) {
-    programs::start(b"check ");
+fn put_verdict(call: &[u8], v: Verdict) {
+    programs::start(call);
     programs::put(v.number);
     programs::put(v.place);
     programs::put(v.capacity);
@@ -29,7 +29,7 @@ fn put_head(h: Head) {
 }
 
 pub fn image(image: &[u8]) {
-    put_verdict(answers::verdict_of(accept::check(image)));
+    put_verdict(b"check ", answers::verdict_of(accept::check(image)));
     put_head(answers::head_of(header::judge(image)));
 }
 
@@ -231,4 +231,8 @@ pub fn moves(image: &[u8], out: &mut [u8]) {
     fill(&mut *out);
     let b = moves::to_cowd(image, &mut *out);
     put_answer(b, out);
+}
+
+pub fn profile(image: &[u8]) {
+    put_verdict(b"profile ", answers::verdict_of(profile::profile(image)));
 }

@@ -20,6 +20,7 @@ use Rattle.exports.proofs.anhkhovet_normal as normal
 use Rattle.exports.proofs.anhkhovet_collapse as collapse
 use Rattle.exports.proofs.anhkhovet_to_kdmv as to-kdmv
 use Rattle.exports.proofs.anhkhovet_to_cowd as to-cowd
+use Rattle.exports.proofs.anhkhovet_profile as profile
 use Rattle.exports.proofs.lists.anhkhovet_survey as survey
 use Rattle.exports.proofs.lists.anhkhovet_mend as mend
 use Rattle.exports.proofs.extents.anhkhovet_descriptor as descriptor
@@ -121,9 +122,12 @@ module _ (T : Ended) where
           ((r ≡ answer κs a) × (ws ≡ put κs a (content κs a) (other κs a)))
           (λ p. (p .0, all κs a ws ∙ (λ i. put κs a (p .1 .0 i) (p .1 .1 i)))))
 
--- ---- the fourteen calls: each `_` is what the contract itself says
+-- ---- the calls: each `_` is what the contract itself says
 pub check-determined : Determined check.ended (λ M. check.spec)
 check-determined = answered check.ended _ (λ κs a. (tt, tt)) (λ κs a ws. refl)
+
+pub profile-determined : Determined profile.ended (λ M. profile.spec)
+profile-determined = answered profile.ended _ (λ κs a. (tt, tt)) (λ κs a ws. refl)
 
 pub header-determined : Determined header.ended (λ M. header.spec)
 header-determined = answered header.ended _ (λ κs a. (tt, tt)) (λ κs a ws. refl)

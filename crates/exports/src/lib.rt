@@ -9,6 +9,7 @@ ghost use Rattle.format.specs.Source.{sectorLookup, answerPart};
 ghost use Rattle.format.specs.Chain.{chainLookup};
 ghost use Rattle.format.specs.Collapse.{normal, normalOutput, collapse, collapseOutput};
 ghost use Rattle.format.specs.Moves.{toKdmv, toKdmvOutput, toCowd, toCowdOutput};
+ghost use Rattle.format.specs.Profile.{profile};
 ghost use Rattle.format.specs.Answers.{headerNumbers, verdict, markedNumbers, located, chained, written, framed};
 use format::Framed;
 use format::Head;
@@ -102,4 +103,11 @@ pub extern "C" fn anhkhovet_to_cowd(image: &[u8], out: &mut [u8]) -> Written
     ensures { λ r. ⌜ now (out .exit) ≡ toCowdOutput (now (image .entry)) (now (out .entry)) ⌝ }
 {
     answers::written_of(moves::to_cowd(image, &mut *out))
+}
+
+#[no_mangle]
+pub extern "C" fn anhkhovet_profile(image: &[u8]) -> Verdict
+    ensures { λ r. ⌜ r ≡ verdict (profile (now (image .entry))) ⌝ }
+{
+    answers::verdict_of(profile::profile(image))
 }
