@@ -1,14 +1,16 @@
 -- The comparison from the tables on, each premise as the code gives it.
-use Prim.Native.Nat.{ℕ, _+_, _*_, _-_, _≤_, _<_, min}
+use Prim.Native.Nat.{ℕ, zero, suc, _+_, _*_, _-_, _≤_, _<_, min}
 use mathlib.Core.Path.{_≡_, refl, sym, ap, _∙_}
 use mathlib.Core.List.{List}
 use native.Mathlib.Omega.{arith}
-use lib.ListN.{length}
+use native.Mathlib.Nat.{add-zero}
+use lib.ListN.{length, getD}
+use Rattle.base.specs.Pick.{pick}
 use Rattle.base.specs.Numbers.{leAt, leBytes}
 use Rattle.base.specs.Bytes.{SameBytes, zeros}
 use Rattle.base.proofs.Stands.{Stands}
 use Rattle.base.proofs.Numbers.{le-ends}
-use Rattle.base.proofs.Over.{zeros-ends}
+use Rattle.base.proofs.Over.{zeros-at, zeros-ends}
 use Rattle.format.specs.Geometry.{grains}
 use Rattle.format.specs.Grains.{grainMap, entryFor, storedBelow}
 use Rattle.format.specs.Layout.{tableCount, tablesAt, sectorV, sectorOf, sectorsLaid}
@@ -20,7 +22,9 @@ use Rattle.layout.specs.WrittenParts.{entriesEnd}
 use Rattle.layout.proofs.PartSizes.{directory-fits, unused-ends, entries-before}
 use Rattle.laws.proofs.LayoutNumbers.{some-size, sector-small}
 use Rattle.laws.proofs.LayoutBack.{entry-stands}
+use Rattle.blocks.specs.Blocks.{Passed}
 use Rattle.alike.specs.FirstOther.{FirstOther}
+use Rattle.alike.proofs.Compared.{ended}
 use Rattle.profile.specs.Compared.{formOf, compared, entryMeant, nextMeant, Published, AlikeTo, Laid}
 use Rattle.profile.proofs.FirstDifference.{shorter, longer, same-file}
 use Rattle.profile.proofs.Parts.{zeros-less}
@@ -41,13 +45,16 @@ module _ {s : List ℕ} {h : Header} (first all g next entry r : ℕ) (a : Alike
   before : 512 + 4 * tableCount Kdmv (h .capacity) (h .«grain_size») ≤ first + 4 * g
   before = omega (arith, directory-fits Kdmv (h .capacity) (h .«grain_size»))
 
-  pub entry-room : first + 4 * g + 4 ≤ length s
-  entry-room =
+  pub entries-room : first + 4 * all ≤ length s
+  entries-room =
       omega (
         arith,
         tables-room a before,
         unused-ends Kdmv (h .capacity) (h .«grain_size») (some-size (sizes s h (a .published))),
       )
+
+  pub entry-room : first + 4 * g + 4 ≤ length s
+  entry-room = omega (arith, entries-room)
 
   pub next-small : next ≤ 0x100000000
   next-small = omega (arith, sector-small Kdmv (sizes s h (a .published)) (grainMap s h) g (omega arith))
@@ -81,6 +88,47 @@ module _ {s : List ℕ} {h : Header} (first all g next entry r : ℕ) (a : Alike
       pub entry-not : r < first + 4 * g + 4 → Refused (NotNormal r) ≡ compared s h
       entry-not b =
           alike-not a _ entry-there r f (first + 4 * g + 4) (le-ends _ 4 (entryMeant entry next) _ refl) b entry-room
+
+-- ---- entries that are 0, which mean themselves
+-- after g entries, where the next stored grain stands at sector `next`
+abbrev pub After : List ℕ → Header → ℕ → ℕ → ℕ → Type 0
+After s h first next g =
+    (AlikeTo (first + 4 * g) s h) × (next ≡ sectorOf Kdmv (h .capacity) (h .«grain_size») (grainMap s h) g)
+
+zero-bytes : (s : List ℕ) (at n : ℕ) → leAt s at n ≡ 0 → (i : ℕ) → i < n → getD s (at + i) 0 ≡ 0
+unfolding leAt
+zero-bytes s at zero e i l = absurd (omega arith)
+zero-bytes s at (suc n) e zero l = rw add-zero (omega arith)
+zero-bytes s at (suc n) e (suc i) l =
+    let q : at + suc i ≡ at + 1 + i = omega arith in rw q (zero-bytes s (at + 1) n (omega arith) i (omega arith))
+
+module _ (s : List ℕ) (h : Header) (first all next : ℕ) (i : first ≡ 512 * tablesAt Kdmv (h .capacity) (h .«grain_size»))
+    (j : all ≡ grains (h .capacity) (h .«grain_size»)) where
+  absent-on : (g : ℕ) → After s h first next g → g < all → leAt s (first + 4 * g) 4 ≡ 0 → After s h first next (g + 1)
+  unfolding entryMeant nextMeant pick leBytes zeros
+  absent-on g a l e = (
+    entry-on first all g next 0 (first + 4 * g + 4) (a .0) i j l (a .1) (sym e)
+        (ended s (first + 4 * g) (leBytes 4 0) 4 (λ k b. zero-bytes s (first + 4 * g) 4 e k b ∙ sym (zeros-at 4 k)) (omega arith)
+        (omega arith))
+        (omega arith),
+    next-sector first all g next 0 0 (a .0) i j l (a .1) (sym e),
+  )
+
+  absents-on : (g d : ℕ) → After s h first next g → g + d ≤ all
+      → ((k : ℕ) → g ≤ k → k < g + d → leAt s (first + 4 * k) 4 ≡ 0) → After s h first next (g + d)
+  absents-on g zero a l z = rw add-zero a
+  absents-on g (suc d) a l z =
+      let q : g + d + 1 ≡ g + suc d = omega arith in
+      rw (← q)
+      (absent-on (g + d) (absents-on g d a (omega arith) (λ k m b. z k m (omega arith))) (omega arith)
+      (z (g + d) (omega arith) (omega arith)))
+
+  pub passed-on : (tables g r : ℕ) → first ≡ 512 * tables → Passed s tables g all r → After s h first next g
+      → After s h first next r
+  passed-on tables g r e p a =
+      let q : g + (r - g) ≡ r = omega (arith, p .low) in
+      rw q at (absents-on g (r - g) a (omega (arith, p .high))
+      (λ k m b. rw e (p .zeros k m (omega arith))))
 
 -- the number that the code looked for
 pub meant-as : (s : List ℕ) (at x y r : ℕ) → x ≡ y → FirstOther s at (leBytes 4 x) r → FirstOther s at (leBytes 4 y) r

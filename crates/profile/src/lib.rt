@@ -8,6 +8,8 @@ ghost use Rattle.format.specs.declared.Kind.the-variants.{Kdmv};
 ghost use Rattle.format.specs.declared.Refusal.the-variants.{NotNormal};
 ghost use Rattle.format.specs.declared.CheckAnswer.the-variants.{Refused};
 ghost use Rattle.layout.specs.WrittenParts.{entriesEnd};
+ghost use lib.ListN.{length};
+ghost use Rattle.blocks.specs.Blocks.{Passed};
 ghost use Rattle.profile.specs.Compared.{formOf, compared, entryMeant, nextMeant, Taken, Published, AlikeTo, Laid};
 use format::CheckAnswer;
 use format::Header;
@@ -97,12 +99,24 @@ fn compare_gap(image: &[u8], h: Header, sectors: u64) -> CheckAnswer
     compare_lengths(image, h, sectors)
 }
 
+// Past entries that are 0, which mean themselves: looked for where a block may begin, since most tables have long runs of them.
+fn past_absent(image: &[u8], tables: u64, g: u64, all: u64) -> u64
+    requires { ⌜ (g ≤ all) × (512 * tables + 4 * all ≤ length (now image)) ⌝ }
+    ensures { λ r. ⌜ Passed (now (image .entry)) tables g all r ⌝ }
+{
+    if g % 16 == 0 {
+        return blocks::past_zeros(image, tables, g, all);
+    }
+    g
+}
+
 // The table entries in use.
 fn compare_tables(image: &[u8], h: Header) -> CheckAnswer
     requires { ⌜ AlikeTo (512 * tablesAt Kdmv (h .capacity) (h .«grain_size»)) (now image) h ⌝ }
     ensures { λ r. ⌜ r ≡ compared (now (image .entry)) h ⌝ }
 {
-    let first = 512 * tables_at(Kind::Kdmv, h.capacity, h.grain_size);
+    let tables = tables_at(Kind::Kdmv, h.capacity, h.grain_size);
+    let first = 512 * tables;
     let all = grains_of(h.capacity, h.grain_size);
     let mut next = sector_v(Kind::Kdmv, h.capacity, h.grain_size);
     let mut g: u64 = 0;
@@ -114,7 +128,7 @@ fn compare_tables(image: &[u8], h: Header) -> CheckAnswer
             return not_normal(place);
         }
         next = next_meant(entry, next);
-        g += 1;
+        g = past_absent(image, tables, g + 1, all);
     }
     compare_gap(image, h, next)
 }
