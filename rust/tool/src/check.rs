@@ -7,8 +7,8 @@ use crate::hint::hinted;
 use crate::judged::Judged;
 use crate::layer::Layer;
 use crate::names::{name, put_name};
-use crate::print;
 use crate::progress::Progress;
+use crate::reports::{self, Report};
 use crate::verdicts::Verdicts;
 use anhkhovet::Disk;
 use serde_json::{json, Value};
@@ -38,62 +38,38 @@ fn judged(file: Layer) -> Judged<Disk> {
     judged
 }
 
-impl Verdict {
+impl Report for Verdict {
     fn status(&self) -> Option<Status> {
         match self {
-            Verdict::Image(judged) => judged.verdict.as_ref().err().map(Failure::status),
+            Verdict::Image(judged) => judged.status(),
             Verdict::Split(verdicts) => verdicts.status(),
         }
     }
-}
 
-fn image_line(path: &Path, judged: &Judged<Disk>) -> String {
-    let verdict = match &judged.verdict {
-        Ok(disk) => format!(
-            "{}: accepted, capacity {} sectors, grain size {}",
-            name(path),
-            disk.capacity,
-            disk.grain_size
-        ),
-        Err(failure) => failure.to_string(),
-    };
-    verdict + judged.remark() + "\n"
-}
-
-fn line(path: &Path, verdict: &Verdict) -> String {
-    match verdict {
-        Verdict::Image(judged) => image_line(path, judged),
-        Verdict::Split(verdicts) => verdicts.lines(),
+    fn lines(&self, path: &Path) -> String {
+        match self {
+            Verdict::Image(judged) => judged.line(|disk| {
+                let (capacity, size) = (disk.capacity, disk.grain_size);
+                format!(
+                    "{}: accepted, capacity {capacity} sectors, grain size {size}",
+                    name(path)
+                )
+            }),
+            Verdict::Split(verdicts) => verdicts.lines(),
+        }
     }
-}
 
-fn object(path: &Path, verdict: &Verdict) -> Value {
-    let mut object = match verdict {
-        Verdict::Image(judged) => judged
-            .object(|disk| json!({ "capacity": disk.capacity, "grain_size": disk.grain_size })),
-        Verdict::Split(verdicts) => verdicts.object(),
-    };
-    put_name(&mut object, "file", path);
-    object
+    fn object(&self, path: &Path) -> Value {
+        let mut object = match self {
+            Verdict::Image(judged) => judged
+                .object(|disk| json!({ "capacity": disk.capacity, "grain_size": disk.grain_size })),
+            Verdict::Split(verdicts) => verdicts.object(),
+        };
+        put_name(&mut object, "file", path);
+        object
+    }
 }
 
 pub fn check(paths: &[PathBuf], json: bool) -> Result<(), Failure> {
-    let mut worst = None;
-    let mut each = |tell: &mut dyn FnMut(&Path, &Verdict) -> Result<(), Failure>| {
-        paths.iter().try_for_each(|path| {
-            let verdict = one(path);
-            worst = worst.max(verdict.status());
-            tell(path, &verdict)
-        })
-    };
-    if json {
-        print::members(|all| {
-            all.list("files", |take| {
-                each(&mut |path, verdict| take(&object(path, verdict)))
-            })
-        })?;
-    } else {
-        each(&mut |path, verdict| print::text(&line(path, verdict)))?;
-    }
-    worst.map_or(Ok(()), |status| Err(Failure::Told(status)))
+    reports::each(paths, json, one)
 }

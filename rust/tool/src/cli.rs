@@ -20,6 +20,7 @@ pub struct Target {
 
 pub enum Task {
     Check(Vec<PathBuf>),
+    Profile(Vec<PathBuf>),
     Survey(Vec<PathBuf>),
     Sector(Vec<PathBuf>, u64),
     Read(Vec<PathBuf>, u64, Option<Target>),
@@ -58,6 +59,7 @@ fn task(name: &str, given: &ArgMatches) -> Option<Task> {
     };
     Some(match name {
         "check" => Task::Check(files),
+        "profile" => Task::Profile(files),
         "survey" => Task::Survey(files),
         "sector" => Task::Sector(files, sector()?),
         "read" => Task::Read(files, sector()?, target().filter(|to| !stream(&to.path))),
@@ -99,7 +101,7 @@ pub fn stream(path: &Path) -> bool {
 /// Why a stream cannot be what a task takes it for, or nothing.
 fn misused(task: &Task) -> Option<&'static str> {
     let input = match task {
-        Task::Check(files) | Task::Survey(files) => files,
+        Task::Check(files) | Task::Profile(files) | Task::Survey(files) => files,
         Task::Map(files) | Task::Coverage(files) | Task::Digest(files, _) => files,
         Task::Sector(files, _) | Task::Read(files, ..) | Task::Compare(files, _) => files,
         Task::Collapse(files, _) | Task::Move(files, _) => files,

@@ -88,6 +88,11 @@ fn judging(command: Command) -> Command {
                 .arg(files("The images and descriptors, each judged by itself")),
         )
         .subcommand(
+            subcommand("profile")
+                .about("Says whether images have the one form of what is published, and else where they differ from it first")
+                .arg(files("The images, each judged by itself")),
+        )
+        .subcommand(
             subcommand("survey")
                 .about("Counts the grains of images by kind, with totals and a tally of refusals")
                 .arg(files("The images, each judged by itself")),

@@ -144,6 +144,15 @@ impl Layers {
         &mut self.own.bytes_mut()[self.parts[layer as usize].bytes.clone()]
     }
 
+    /// Copies a part of a layer's file, as far as it has it, beside what decides.
+    pub fn copy(&mut self, layer: u64, part: Range<u64>) -> Result<(), Failure> {
+        let end = part.end.min(self.lengths[layer as usize]);
+        let start = part.start.min(end);
+        let file = self.files[layer as usize].clone();
+        let own = &mut self.bytes_mut(layer)[start as usize..end as usize];
+        file.copy(start, own)
+    }
+
     /// The areas of one layer that are copied; none where the check refuses the layer with 1 to 8.
     pub fn frame(&self, layer: u64) -> &[Area] {
         &self.parts[layer as usize].frame

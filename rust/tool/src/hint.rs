@@ -1,5 +1,5 @@
-//! What helps on after a refusal: a descriptor is no image, lookups need few of an image's parts, and copies that differ can be
-//! mended.
+//! What helps on after a refusal: a descriptor is no image, lookups need few of an image's parts, copies that differ can be
+//! mended, and each image has a normal form.
 
 use crate::described::{Described, Opened};
 use crate::failure::{Failure, Refusal};
@@ -12,12 +12,14 @@ const DESCRIPTOR: &str = "it is a descriptor, which `anhkhovet describe` reads";
 const COPIES: &str =
     "`anhkhovet mend` lists the entries of tables that differ, and mends one side from the other in a copy";
 
+const NORMAL: &str = "`anhkhovet normal FILE -o OUT` writes the normal form";
+
 const SERVED: &str =
     "`anhkhovet sector`, `read`, `map` and `digest` of the image itself do without it";
 
 /// A refusal with what could be done instead, where that is known: of a descriptor that is handed in where single images are
-/// taken, of an image with a part outside the file that lookups do not need, and of one whose two directories or their tables
-/// differ.
+/// taken, of an image with a part outside the file that lookups do not need, of one whose two directories or their tables
+/// differ, and of one that is not its normal form.
 pub fn hinted(failure: Failure) -> Failure {
     match failure {
         Failure::Refused(refusal) => Failure::Refused(detailed(refusal)),
@@ -33,6 +35,7 @@ fn detailed(mut refusal: Refusal) -> Refusal {
         (2, Some(file)) => hint(file),
         (8, _) => refusal.why.part().map_or("", without).to_string(),
         (11, _) => COPIES.to_string(),
+        (42, _) => NORMAL.to_string(),
         _ => String::new(),
     };
     let parts = [refusal.detail, hint];

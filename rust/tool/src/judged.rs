@@ -1,9 +1,9 @@
 //! What is said of one image, and whether its disk was still open: a copy of a running machine's disk is often refused for it.
 
-use crate::failure::{Failure, Status};
+use crate::failure::{self, Failure, Status};
 use crate::files::Layers;
 use crate::layer::Layer;
-use crate::still_open::{self, still_open};
+use crate::still_open::{self, still_open, STILL_OPEN};
 use anhkhovet::Refusal;
 use serde_json::{json, Value};
 
@@ -28,14 +28,40 @@ impl<T> Judged<T> {
 
     /// The answer of a call that judges all grains of an image.
     pub fn of(file: Layer, call: impl Fn(&[u8]) -> Result<T, Refusal>) -> Judged<T> {
+        Judged::by(file, |image| image.ask(0, call), |_, _| String::new())
+    }
+
+    /// An answer that may need more of the file, and what a refusal leaves open, by own bytes.
+    pub fn by(
+        file: Layer,
+        asked: impl FnOnce(&mut Layers) -> Result<Result<T, Refusal>, Failure>,
+        detail: impl FnOnce(&[u8], Refusal) -> String,
+    ) -> Judged<T> {
         let mut open = None;
         let verdict = Layers::of(vec![file]).and_then(|mut layers| {
-            let answer = layers.ask(0, call)?;
+            let answer = asked(&mut layers)?;
             open = still_open(layers.bytes(0));
             layers.same()?;
-            answer.map_err(Failure::refused(layers.path(0)))
+            answer.map_err(|why| {
+                let mut refusal = failure::Refusal::new(why, Some(layers.path(0)));
+                refusal.detail = detail(layers.bytes(0), why);
+                Failure::Refused(refusal)
+            })
         });
         Judged::new(verdict, open)
+    }
+
+    pub fn status(&self) -> Option<Status> {
+        self.verdict.as_ref().err().map(Failure::status)
+    }
+
+    /// The verdict in words, which a failure has.
+    pub fn line(&self, accepted: impl FnOnce(&T) -> String) -> String {
+        let verdict = match &self.verdict {
+            Ok(answer) => accepted(answer),
+            Err(failure) => failure.to_string(),
+        };
+        verdict + self.remark() + "\n"
     }
 
     /// The members `accepted`, `refused` or `failed`, and `still_open`.
@@ -48,9 +74,12 @@ impl<T> Judged<T> {
         object
     }
 
-    /// What stands after the verdict in words.
+    /// What stands after the verdict in words; 27 says it already.
     pub fn remark(&self) -> &'static str {
-        still_open::remark(self.still_open)
+        match &self.verdict {
+            Err(Failure::Refused(refusal)) if refusal.why.number == STILL_OPEN => "",
+            _ => still_open::remark(self.still_open),
+        }
     }
 }
 

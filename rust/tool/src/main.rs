@@ -23,6 +23,7 @@ mod failure;
 mod files;
 mod folder;
 mod frame;
+mod front;
 mod given;
 mod grains;
 mod guard;
@@ -48,7 +49,9 @@ mod output;
 mod own;
 mod place;
 mod print;
+mod profile;
 mod progress;
+mod reports;
 mod room;
 mod sector;
 mod signals;
@@ -72,6 +75,7 @@ use std::process::exit;
 fn run(task: Task, json: bool) -> Result<(), Failure> {
     match task {
         Task::Check(files) => check::check(&files, json),
+        Task::Profile(files) => profile::profile(&files, json),
         Task::Survey(files) => survey::survey(&files, json),
         Task::Sector(files, sector) => sector::sector(&files, sector, json),
         Task::Read(files, sector, target) => sector::read(&files, sector, target, json),

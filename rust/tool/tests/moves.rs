@@ -229,7 +229,7 @@ fn refusals_tell_why() {
     for (file, said) in [
         ("of-2", "of-2: refused 44: a grain of under 8 sectors has no place in KDMV, and a grain marked as zeros none in COWD (its grain size is 2)"),
         ("tool-middle.vmdk", "none in COWD (grain 2 is marked as zeros)"),
-        ("tool-packed.vmdk", "tool-packed.vmdk: refused 23: collapse and normal form take no COWD image, a move takes the other kind, and none of them a compressed image (it is compressed)"),
+        ("tool-packed.vmdk", "tool-packed.vmdk: refused 23: collapse, normal form and the lab profile take no COWD image, a move takes the other kind, and none of them a compressed image (it is compressed)"),
         ("open", "open: refused 27: the disk was still open"),
     ] {
         run(folder.path(), &["move", file, "-o", "out"]).ended(1, said);

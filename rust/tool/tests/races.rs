@@ -188,6 +188,11 @@ fn survey() {
 }
 
 #[test]
+fn profile() {
+    race(&["profile", "disk"]);
+}
+
+#[test]
 fn map() {
     race(&["map", "disk", "delta"]);
 }

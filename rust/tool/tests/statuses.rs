@@ -20,6 +20,11 @@ fn folder() -> Folder {
     fs::write(folder.at("differs"), other).expect("written");
     let mut open = fs::read(folder.at(FILES[0])).expect("a sample");
     open[72] = 1;
+    run(
+        folder.path(),
+        &["normal", "tool-base.vmdk", "-o", "published"],
+    )
+    .well();
     fs::write(folder.at("open"), open).expect("written");
     folder
 }
@@ -36,6 +41,7 @@ fn each_status_has_its_meaning() {
         ("check tool-base.vmdk", 0),
         ("digest tool-base.vmdk --list holds", 0),
         ("survey two-gb-sparse.vmdk", 0),
+        ("profile published", 0),
         ("check open", 0),
         ("map open tool-middle.vmdk", 0),
         ("map --coverage open tool-middle.vmdk", 0),
@@ -44,6 +50,8 @@ fn each_status_has_its_meaning() {
         ("mend --good redundant open", 0),
         ("move tool-base.vmdk -o moved", 0),
         ("check holds", 1),
+        ("profile published tool-base.vmdk", 1),
+        ("profile open", 1),
         ("map holds", 1),
         ("map --coverage holds", 1),
         ("map --coverage tool-base.vmdk two-gb-sparse.vmdk", 1),
@@ -59,6 +67,7 @@ fn each_status_has_its_meaning() {
         ("move tool-middle.vmdk -o out", 1),
         ("check", 2),
         ("survey", 2),
+        ("profile", 2),
         ("survey -", 2),
         ("sector tool-base.vmdk two", 2),
         ("check --verbose tool-base.vmdk", 2),

@@ -15,6 +15,8 @@ mod labs;
 mod mends;
 #[path = "common/outside.rs"]
 mod outside;
+#[path = "common/published.rs"]
+mod published;
 
 use common::{run, Folder};
 use std::fs;
@@ -97,6 +99,7 @@ fn transcript(name: &str) {
     mends::add(&folder);
     labs::add(&folder);
     outside::add(&folder);
+    published::add(&folder);
     add_files(&folder);
 
     let mut now = String::new();
@@ -140,4 +143,5 @@ macro_rules! transcripts {
 
 transcripts!(
     check survey sector read map coverage digest collapse normal describe refusals outside split still_open mend moves
+    profile
 );
