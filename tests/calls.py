@@ -55,7 +55,7 @@ def lacks(call, wrong):
             re.search(rf"fn {call}\(\s*&self", text("rust/compare/src/side.rs")),
         f'"{call}" in the table of rust/compare/src/tally.rs': f'"{call}"' in text("rust/compare/src/tally.rs"),
         f"a generated case of rust/compare that asks `run.{call}`": f"run.{call}(" in text(compare),
-        f"`anhkhovet::{call}` in rust/tool": re.search(rf"anhkhovet::{call}(_part)?\(", text("rust/tool/src/**/*.rs")),
+        f"`anhkhovet::{call}` in rust/tool": re.search(rf"anhkhovet::{call}(_part)?\b", text("rust/tool/src/**/*.rs")),
         f"`anhkhovet_{call}` in docs/TOOL.md": f"`anhkhovet_{call}`" in text("docs/TOOL.md"),
     }
     return [place for place, there in places.items() if not there]

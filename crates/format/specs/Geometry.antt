@@ -5,7 +5,7 @@ use lib.ListN.{length, take, drop}
 use Rattle.base.specs.Rounding.{ceil}
 
 -- F: file length / 512 rounded down. Bytes from 512 x F on are never used, except the magic of a file of less than a sector
--- (1 or 2); the length itself is judged in 7
+-- (1 or 2), and where a whole file is compared (42); the length itself is judged in 7
 abbrev pub fileSectors : List ℕ → ℕ
 fileSectors s = length s / 512
 
