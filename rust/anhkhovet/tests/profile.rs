@@ -77,7 +77,7 @@ fn each_part_of_the_header() {
     described.extend([0; 512]);
     put(&mut described, 28, 384);
     put(&mut described, 36, 1);
-    assert_eq!(profile(&described), refused(42, 29));
+    assert_eq!(profile(&described), refused(42, 28));
     let mut moved = published();
     moved.extend_from_within(512..1024);
     put(&mut moved, 56, 384);

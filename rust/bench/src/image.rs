@@ -1,4 +1,4 @@
-//! Images to measure on: header, descriptor of 20 sectors, directory, tables, then grains back to back.
+//! Images to measure on: header, descriptor of 20 sectors or none, directory, tables, then grains back to back.
 
 use compare::rng::Rng;
 use std::fs::File;
@@ -12,6 +12,17 @@ const TABLE: u64 = 512;
 const DESCRIPTOR_SECTORS: u64 = 20;
 /// Every base has it, so that every delta can name it.
 const CID: &str = "12345678";
+
+/// What an image is like.
+#[derive(Clone, Copy, PartialEq)]
+enum Form {
+    /// With a descriptor that qemu-img takes.
+    Described,
+    /// The same with a redundant directory.
+    Copied,
+    /// As the lab profile has it.
+    Published,
+}
 
 pub struct Image {
     /// Header, descriptor and directory, or both directories.
@@ -33,43 +44,52 @@ impl Image {
         parent: Option<&str>,
         holds: impl FnMut(u64) -> bool,
     ) -> Image {
-        Image::build(capacity, name, parent, false, holds)
+        Image::build(capacity, name, parent, Form::Described, holds)
     }
 
     /// The same with a redundant directory.
     pub fn copied(capacity: u64, name: &str, holds: impl FnMut(u64) -> bool) -> Image {
-        Image::build(capacity, name, None, true, holds)
+        Image::build(capacity, name, None, Form::Copied, holds)
+    }
+
+    /// One that meets the lab profile, if capacity is a multiple of the grain size.
+    pub fn published(capacity: u64, holds: impl FnMut(u64) -> bool) -> Image {
+        Image::build(capacity, "", None, Form::Published, holds)
     }
 
     fn build(
         capacity: u64,
         name: &str,
         parent: Option<&str>,
-        copied: bool,
+        form: Form,
         mut holds: impl FnMut(u64) -> bool,
     ) -> Image {
+        let copied = form == Form::Copied;
+        let described = form != Form::Published;
         let times = 1 + u64::from(copied);
         let grains = up(capacity, GRAIN);
         let tables = up(grains, TABLE);
-        let directory = 1 + DESCRIPTOR_SECTORS;
+        let directory = 1 + if described { DESCRIPTOR_SECTORS } else { 0 };
         let directory_sectors = up(tables * 4, SECTOR);
         let first_table = directory + times * directory_sectors;
         let first_grain = up(first_table + times * tables * 4, GRAIN) * GRAIN;
 
         let mut front = vec![0; (first_table * SECTOR) as usize];
         front[..4].copy_from_slice(b"KDMV");
-        put(&mut front, 4, 4, 1);
-        put(&mut front, 8, 4, 1);
+        put(&mut front, 4, 4, if described { 1 } else { 2 });
+        put(&mut front, 8, 4, if described { 1 } else { 5 });
         put(&mut front, 12, 8, capacity);
         put(&mut front, 20, 8, GRAIN);
-        put(&mut front, 28, 8, 1);
-        put(&mut front, 36, 8, DESCRIPTOR_SECTORS);
         put(&mut front, 44, 4, TABLE);
         put(&mut front, 56, 8, directory);
         put(&mut front, 64, 8, first_grain);
         front[73..77].copy_from_slice(b"\n \r\n");
-        let text = descriptor(capacity, name, parent);
-        front[512..512 + text.len()].copy_from_slice(text.as_bytes());
+        if described {
+            put(&mut front, 28, 8, 1);
+            put(&mut front, 36, 8, DESCRIPTOR_SECTORS);
+            let text = descriptor(capacity, name, parent);
+            front[512..512 + text.len()].copy_from_slice(text.as_bytes());
+        }
         for table in 0..times * tables {
             let (copy, entry) = (table / tables, table % tables);
             let at = (directory + copy * directory_sectors) * SECTOR + entry * 4;
@@ -130,6 +150,11 @@ impl Image {
     /// In bytes, exactly to the end of the last grain.
     pub fn length(&self) -> u64 {
         SECTOR * (self.first_grain + self.stored * GRAIN)
+    }
+
+    /// The sectors before its grains.
+    pub fn first_grain(&self) -> u64 {
+        self.first_grain
     }
 
     /// The bytes of a stored grain.
@@ -211,6 +236,15 @@ mod tests {
         }
         let text = &bytes[512..512 * 21];
         assert_eq!(plain::descriptor(text, 1).0.number, 0);
+    }
+
+    #[test]
+    fn published_images_meet_the_profile() {
+        let capacity = 1000 * GRAIN;
+        let image = Image::published(capacity, |grain| grain % 3 == 1);
+        let bytes = image.filled(&mut Rng::new(1, 0));
+        let verdict = plain::profile(&bytes);
+        assert_eq!((verdict.number, verdict.capacity), (0, capacity));
     }
 
     #[test]

@@ -2,13 +2,14 @@
 
 use crate::check::Input;
 use crate::image::{up, Image, GRAIN};
+use crate::machine::page_faults;
 use crate::map::Map;
 use crate::report::{grouped, Figure, Report};
 use crate::timing::{best, keep};
 use crate::{agree, side, Outcome, Setup, SEED};
 use compare::rng::Rng;
 use plain::Located;
-use std::fs::{read_to_string, File};
+use std::fs::File;
 use std::io;
 
 const LAYERS: u64 = 16;
@@ -82,21 +83,6 @@ fn touched(input: &Input, sectors: &[u64], report: &mut Report) -> Outcome {
         grouped(faults(plain::lookup)?)
     ));
     Ok(())
-}
-
-/// This program's page faults up to now, with and without a read: fields 10 and 12 of /proc/self/stat, counted from 1.
-fn page_faults() -> io::Result<u64> {
-    let stat = read_to_string("/proc/self/stat")?;
-    let fields: Vec<&str> = stat.split(' ').collect();
-    let number = |field: usize| {
-        fields
-            .get(field - 1)
-            .and_then(|text| text.parse::<u64>().ok())
-    };
-    match (number(10), number(12)) {
-        (Some(minor), Some(major)) => Ok(minor + major),
-        _ => Err(io::Error::new(io::ErrorKind::InvalidData, stat)),
-    }
 }
 
 /// The layers of a chain, end to end, and what was stored where.

@@ -18,6 +18,7 @@ mod map;
 mod marks;
 mod mend;
 mod moves;
+mod profile;
 mod qemu;
 mod report;
 mod side;
@@ -34,9 +35,10 @@ use std::process::exit;
 
 /// Inputs depend on it alone.
 const SEED: u64 = 7;
-const CALLS: [&str; 10] = [
+const CALLS: [&str; 11] = [
     "check",
     "marks",
+    "profile",
     "copies",
     "mend",
     "survey",
@@ -137,6 +139,9 @@ fn run(quick: bool, calls: &[String]) -> Result<Report, Box<dyn Error>> {
     if wanted("marks") {
         marks::measure(&setup, &mut report)?;
     }
+    if wanted("profile") {
+        profile::measure(&setup, &mut report)?;
+    }
     if wanted("copies") {
         copies::measure(&setup, &mut report)?;
     }
@@ -179,6 +184,7 @@ fn a_quick_run_has_rows_for_every_call() -> Outcome {
     for call in [
         "check",
         "check in a lent list",
+        "profile",
         "check, two directories",
         "mend",
         "survey",

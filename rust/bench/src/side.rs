@@ -17,6 +17,10 @@ mod proved {
         same!(raw::check(image) => Verdict { number, place, capacity, grain_size })
     }
 
+    pub fn profile(image: &[u8]) -> Verdict {
+        same!(raw::profile(image) => Verdict { number, place, capacity, grain_size })
+    }
+
     pub fn check_in(image: &[u8], list: &mut [u64]) -> Marked {
         same!(raw::check_in(image, list) => Marked { number, place, capacity, grain_size, marked })
     }
@@ -62,7 +66,7 @@ mod proved {
 
 #[cfg(feature = "proved")]
 pub use proved::{
-    chain, check, check_in, collapse, describe, lookup, mend, survey, to_cowd, to_kdmv,
+    chain, check, check_in, collapse, describe, lookup, mend, profile, survey, to_cowd, to_kdmv,
 };
 
 #[cfg(not(feature = "proved"))]
@@ -80,6 +84,6 @@ mod stand_in {
 
 #[cfg(not(feature = "proved"))]
 pub use {
-    plain::{chain, check, check_in, lookup, mend, survey, to_cowd, to_kdmv},
+    plain::{chain, check, check_in, lookup, mend, profile, survey, to_cowd, to_kdmv},
     stand_in::{collapse, describe},
 };
