@@ -108,7 +108,7 @@ module _ (s : List ℕ) (h : Header) (first all next : ℕ) (i : first ≡ 512 *
   unfolding entryMeant nextMeant pick leBytes zeros
   absent-on g a l e = (
     entry-on first all g next 0 (first + 4 * g + 4) (a .0) i j l (a .1) (sym e)
-        (ended s (first + 4 * g) (leBytes 4 0) 4 (λ k b. zero-bytes s (first + 4 * g) 4 e k b ∙ sym (zeros-at 4 k)) (omega arith)
+        (ended s (first + 4 * g) (leBytes 4 0) 4 (λ k b. zero-bytes s _ 4 e k b ∙ sym (zeros-at 4 k)) (omega arith)
         (omega arith))
         (omega arith),
     next-sector first all g next 0 0 (a .0) i j l (a .1) (sym e),
