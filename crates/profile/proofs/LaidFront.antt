@@ -29,7 +29,7 @@ use Rattle.laws.proofs.LayoutNumbers.{Sizes, some-size, some-table, tables-late
 use Rattle.laws.proofs.LayoutParts.{header-stands, directory-stands, tables-stand, gap-stands}
 use Rattle.laws.proofs.LayoutHeader.{laidHeader, front-laid}
 use Rattle.laws.proofs.LayoutBack.{flat-entry, sector-told, table-read}
-use Rattle.profile.specs.Compared.{entryMeant, nextMeant}
+use Rattle.profile.specs.FormCompared.{entryMeant, nextMeant}
 use Rattle.profile.proofs.Parts.{zeros-as, zeros-join, unused-stand}
 
 module _ {c size : ℕ} (z : Sizes c size) (m : Map) where

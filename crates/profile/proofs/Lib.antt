@@ -3,6 +3,6 @@ pub mod Parts
 pub mod LaidFront
 pub mod LaidGrains
 pub mod Stages
-pub mod Turns
+pub mod EntryTurns
 pub mod TableTurns
 pub mod Taking

@@ -28,7 +28,7 @@ use Rattle.laws.proofs.LayoutNumbers.{Sizes}
 use Rattle.laws.proofs.LayoutParts.{header-stands, layout-length}
 use Rattle.laws.proofs.LayoutHeader.{laidHeader}
 use Rattle.alike.specs.FirstOther.{FirstOther}
-use Rattle.profile.specs.Compared.{formOf, Published}
+use Rattle.profile.specs.FormCompared.{formOf, Published}
 use Rattle.profile.proofs.LaidFront.{header-told}
 
 -- ---- an accepted image

@@ -25,13 +25,13 @@ use Rattle.laws.proofs.LayoutBack.{entry-stands}
 use Rattle.blocks.specs.Blocks.{Passed}
 use Rattle.alike.specs.FirstOther.{FirstOther}
 use Rattle.alike.proofs.Compared.{ended}
-use Rattle.profile.specs.Compared.{formOf, compared, entryMeant, nextMeant, Published, AlikeTo, Laid}
+use Rattle.profile.specs.FormCompared.{formOf, compared, entryMeant, nextMeant, Published, AlikeTo, Laid}
 use Rattle.profile.proofs.FirstDifference.{shorter, longer, same-file}
 use Rattle.profile.proofs.Parts.{zeros-less}
 use Rattle.profile.proofs.LaidFront.{gap-unused, entry-is, next-is}
 use Rattle.profile.proofs.LaidGrains.{grains-alike}
 use Rattle.profile.proofs.Stages.{sizes, fits, form-long, full, laid-readable, own}
-use Rattle.profile.proofs.Turns.{alike-as, alike-on, alike-not, earlier, tables-room}
+use Rattle.profile.proofs.EntryTurns.{alike-as, alike-on, alike-not, earlier, tables-room}
 
 -- ---- the tables
 pub first-sector : (s : List ℕ) (h : Header) (v : ℕ) → v ≡ sectorV Kdmv (h .capacity) (h .«grain_size»)

@@ -20,7 +20,7 @@ use Rattle.format.specs.declared.CheckAnswer.the-variants.{Accepted, Refused}
 use Rattle.accept.specs.AcceptedHeader.{acceptedHeader}
 use Rattle.accept.proofs.AcceptedHeaders.{checked-of}
 use Rattle.laws.proofs.AcceptedImage.{accepted-sound}
-use Rattle.profile.specs.Compared.{formOf, Taken, Published}
+use Rattle.profile.specs.FormCompared.{formOf, Taken, Published}
 
 -- ---- 23, 27, 47
 pub published-of : {a b d : Bool} (s : List ℕ) (h : Header) → Taken s h → a ≡ notCollapsible h → a ≡ false → b ≡ stillOpen h

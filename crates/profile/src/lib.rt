@@ -10,7 +10,7 @@ ghost use Rattle.format.specs.declared.CheckAnswer.the-variants.{Refused};
 ghost use Rattle.layout.specs.WrittenParts.{entriesEnd};
 ghost use lib.ListN.{length};
 ghost use Rattle.blocks.specs.Blocks.{Passed};
-ghost use Rattle.profile.specs.Compared.{formOf, compared, entryMeant, nextMeant, Taken, Published, AlikeTo, Laid};
+ghost use Rattle.profile.specs.FormCompared.{formOf, compared, entryMeant, nextMeant, Taken, Published, AlikeTo, Laid};
 use format::CheckAnswer;
 use format::Header;
 use format::HeaderAnswer;

@@ -2,8 +2,8 @@
 use Prim.Native.Nat.{_+_, _*_, _-_, _≤_}
 use mathlib.Core.Path.{_∙_}
 use native.Mathlib.Omega.{arith}
-use Rattle.profile.specs.Compared.{AlikeTo}
-use Rattle.profile.proofs.Turns.{directory-room, alike-as, table-on, table-not}
+use Rattle.profile.specs.FormCompared.{AlikeTo}
+use Rattle.profile.proofs.EntryTurns.{directory-room, alike-as, table-on, table-not}
 use borrow.Author.Needs.{needs}
 use Rattle.profile.proofs.compare_directory.Statement.{statement}
 use Rattle.profile.proofs.compare_directory.Tie as tie

@@ -1,7 +1,7 @@
 use mathlib.Core.Path.{_∙_}
 use native.Mathlib.Omega.{arith}
 use Rattle.profile.proofs.Stages.{image-long}
-use Rattle.profile.proofs.Turns.{header-on, header-not}
+use Rattle.profile.proofs.EntryTurns.{header-on, header-not}
 use borrow.Author.Needs.{needs}
 use Rattle.profile.proofs.compare_header.Statement.{statement}
 use Rattle.profile.proofs.compare_header.Tie as tie

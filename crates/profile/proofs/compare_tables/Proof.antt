@@ -5,8 +5,8 @@ use native.Mathlib.Omega.{arith}
 use Rattle.format.specs.Grains.{grainMap}
 use Rattle.format.specs.Layout.{sectorOf}
 use Rattle.format.specs.declared.Kind.the-variants.{Kdmv}
-use Rattle.profile.specs.Compared.{AlikeTo}
-use Rattle.profile.proofs.Turns.{alike-as}
+use Rattle.profile.specs.FormCompared.{AlikeTo}
+use Rattle.profile.proofs.EntryTurns.{alike-as}
 use Rattle.profile.proofs.TableTurns.{first-sector, entries-room, entry-room, next-small, next-sector, entry-on}
 use Rattle.profile.proofs.TableTurns.{entry-not, meant-as, passed-on, tables-done}
 use borrow.Author.Needs.{needs}

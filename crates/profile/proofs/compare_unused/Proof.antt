@@ -1,6 +1,6 @@
 use mathlib.Core.Path.{_∙_}
 use native.Mathlib.Omega.{arith}
-use Rattle.profile.proofs.Turns.{unused-fits, unused-on, unused-not}
+use Rattle.profile.proofs.EntryTurns.{unused-fits, unused-on, unused-not}
 use borrow.Author.Needs.{needs}
 use Rattle.profile.proofs.compare_unused.Statement.{statement}
 use Rattle.profile.proofs.compare_unused.Tie as tie

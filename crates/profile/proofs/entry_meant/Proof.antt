@@ -1,5 +1,5 @@
 use Rattle.base.proofs.Steps.{steps}
-use Rattle.profile.specs.Compared.{entryMeant}
+use Rattle.profile.specs.FormCompared.{entryMeant}
 use borrow.Author.Needs.{needs}
 use Rattle.profile.proofs.entry_meant.Statement.{statement}
 use Rattle.profile.proofs.entry_meant.Tie as tie

@@ -1,5 +1,5 @@
 use Rattle.base.proofs.Steps.{steps}
-use Rattle.profile.specs.Compared.{nextMeant}
+use Rattle.profile.specs.FormCompared.{nextMeant}
 use borrow.Author.Needs.{needs}
 use Rattle.profile.proofs.next_meant.Statement.{statement}
 use Rattle.profile.proofs.next_meant.Tie as tie

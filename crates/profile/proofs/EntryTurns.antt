@@ -20,7 +20,7 @@ use Rattle.format.proofs.Lengths.{header-length}
 use Rattle.layout.proofs.PartSizes.{directory-fits}
 use Rattle.laws.proofs.LayoutBack.{table-stands}
 use Rattle.alike.specs.FirstOther.{FirstOther}
-use Rattle.profile.specs.Compared.{formOf, compared, Published, AlikeTo}
+use Rattle.profile.specs.FormCompared.{formOf, compared, Published, AlikeTo}
 use Rattle.profile.proofs.Parts.{part-same, part-other}
 use Rattle.profile.proofs.LaidFront.{directory-unused, tables-inside}
 use Rattle.profile.proofs.Stages.{sizes, image-long, form-header, header-as, laid-readable}
