@@ -107,7 +107,7 @@ impl Mistake {
         let mut both = (0..).zip(image.iter().zip(&form));
         let mut found = None;
         for (at, (one, other)) in both.by_ref() {
-            if one != other && !skipped.iter().any(|part| part.contains(&at)) {
+            if one != other && !skipped.contains(&at) {
                 found = Some(at as u64);
                 if self != LastDifference {
                     break;
@@ -148,25 +148,25 @@ impl Mistake {
     }
 
     /// Bytes that are not compared.
-    fn skipped(self, head: Head, image: &[u8]) -> Vec<Range<usize>> {
+    fn skipped(self, head: Head, image: &[u8]) -> Range<usize> {
         let [entries, directory, grains, tables, gap] = ends(head);
         match self {
-            OpenMet => vec![72..73],
-            HeaderSkipped => vec![0..512],
-            VersionSkipped => vec![4..8],
-            FlagsSkipped => vec![8..12],
-            DescriptorSkipped => vec![28..44],
-            DirectorySectorSkipped => vec![56..64],
-            OverheadSkipped => vec![64..72],
-            PaddingSkipped => vec![79..512],
-            RedundantLetThrough if image[48..56] != [0; 8] => vec![48..56],
-            DirectorySkipped => vec![512..directory],
-            UnusedDirectorySkipped => vec![entries..directory],
-            TablesSkipped => vec![directory..tables],
-            UnusedEntriesSkipped => vec![grains..tables],
-            GapSkipped => vec![tables..gap],
-            LastGapByteSkipped => vec![gap - 1..gap],
-            _ => Vec::new(),
+            OpenMet => 72..73,
+            HeaderSkipped => 0..512,
+            VersionSkipped => 4..8,
+            FlagsSkipped => 8..12,
+            DescriptorSkipped => 28..44,
+            DirectorySectorSkipped => 56..64,
+            OverheadSkipped => 64..72,
+            PaddingSkipped => 79..512,
+            RedundantLetThrough if image[48..56] != [0; 8] => 48..56,
+            DirectorySkipped => 512..directory,
+            UnusedDirectorySkipped => entries..directory,
+            TablesSkipped => directory..tables,
+            UnusedEntriesSkipped => grains..tables,
+            GapSkipped => tables..gap,
+            LastGapByteSkipped => gap - 1..gap,
+            _ => 0..0,
         }
     }
 }
