@@ -1,5 +1,22 @@
 //! A side with one deliberate mistake must be caught, each of document 01's "mistakes to shut out" among them.
 
+/// The plain side with a mistake: none, one of a file, one of a module below it.
+macro_rules! mistakes {
+    ($none:ident: $($name:ident)* $(; $of:ident $module:ident)*) => {
+        #[derive(Clone, Copy, Debug, PartialEq)]
+        pub enum Mistake {
+            $none,
+            $($name,)*
+            $($of($module::Mistake),)*
+        }
+
+        use Mistake::*;
+
+        /// Those of the file.
+        pub const ALL: &[Mistake] = &[$($name),*];
+    };
+}
+
 mod dirty;
 mod frames;
 mod marks;
@@ -21,24 +38,8 @@ use plain::{
 };
 use std::path::PathBuf;
 
-/// The plain side with one mistake, of this file or of a module's.
-macro_rules! mistakes {
-    ($($name:ident)* $(; $of:ident $module:ident)*) => {
-        #[derive(Clone, Copy, Debug, PartialEq)]
-        enum Mistake {
-            None,
-            $($name,)*
-            $($of($module::Mistake),)*
-        }
-
-        use Mistake::*;
-
-        /// Those of this file.
-        const ALL: &[Mistake] = &[$($name),*];
-    };
-}
-
 mistakes! {
+    None:
     OverlapAccepted PlaceOfFirstGrain DescriptorNumbersSwapped PackedOffsetForgotten
     ZerosByVersion ZerosByFlag ZerosInTablesOnly ZerosInCowd OldZerosIn11 FlagInVersion1
     ZeroAsksTheParent LengthsThatWrap ShortPart LastGrainLeftOut EntryAsOneGrain RefusedInTotals

@@ -9,6 +9,8 @@ mod published;
 use common::{run, run_soon, Folder};
 use image::{Image, GRAIN};
 use published::{published, put, GAP, V};
+use serde_json::Value;
+use std::collections::BTreeSet;
 use std::fs;
 
 fn folder() -> Folder {
@@ -65,6 +67,36 @@ fn what_stands_there() {
     }
     let met = "changed: meets the profile, capacity 384 sectors\n";
     assert_eq!(told(&folder, &published()), met);
+}
+
+/// The tool reads a part of the file, and says what the library says of all of it.
+#[test]
+fn own_bytes_answer_as_the_whole_file() {
+    let folder = folder();
+    let mut numbers = BTreeSet::new();
+    for at in (0..200).chain((200..V + 3000).step_by(509)) {
+        let mut image = published();
+        image[at] ^= 3;
+        image.truncate(published().len() - at % 2 * 77);
+        fs::write(folder.at("changed"), &image).expect("written");
+        let ran = run(folder.path(), &["profile", "--json", "changed"]);
+        let said: Value = serde_json::from_slice(&ran.out).expect("an object");
+        let refused = &said["files"][0]["refused"];
+        match anhkhovet::profile(&image) {
+            Ok(_) => assert!(refused.is_null(), "{at}"),
+            Err(refusal) => {
+                numbers.insert(refusal.number);
+                assert_eq!(refused["number"], refusal.number, "{at}");
+                assert_eq!(refused["place"], refusal.place, "{at}");
+            }
+        }
+    }
+    assert!(
+        [9, 23, 27, 42, 47]
+            .iter()
+            .all(|number| numbers.contains(number)),
+        "{numbers:?}"
+    );
 }
 
 /// The normal form of what is refused 42 meets it.

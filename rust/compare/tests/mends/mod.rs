@@ -5,23 +5,8 @@ use compare::pairs::{alike_as_text, entry, frame_meets, in_use, other_places, pa
 use compare::side::{Plain, Side};
 use plain::Mended;
 
-/// Each of them but the first.
-macro_rules! mistakes {
-    ($($name:ident)*) => {
-        #[derive(Clone, Copy, Debug, PartialEq)]
-        pub enum Mistake {
-            /// None.
-            Remade,
-            $($name,)*
-        }
-
-        use Mistake::*;
-
-        pub const ALL: &[Mistake] = &[$($name),*];
-    };
-}
-
 mistakes! {
+    Remade:
     WrongSide SideIgnored OnlyOneIsRedundant LowestByteOnly
     CowdFirst OneDirectoryBefore8 RoomBefore8 RoomBefore40
     OneDirectoryIsMended PlacesByNumber AreasNotJudged

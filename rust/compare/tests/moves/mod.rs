@@ -6,23 +6,8 @@ use crate::miscounts::directory;
 use compare::side::{Plain, Side};
 use plain::{Written, ABSENT, STORED, ZERO};
 
-/// Each of them but the first.
-macro_rules! mistakes {
-    ($($name:ident)*) => {
-        #[derive(Clone, Copy, Debug, PartialEq)]
-        pub enum Mistake {
-            /// None.
-            Remade,
-            $($name,)*
-        }
-
-        use Mistake::*;
-
-        pub const ALL: &[Mistake] = &[$($name),*];
-    };
-}
-
 mistakes! {
+    Remade:
     KindBeforeTheCheck PlaceDropped KindItselfTaken PackedAfterOpen OpenMoved OpenOfLowByte OpenAfterZeros
     SizesMoved Size4Moved ZeroAsAbsent ZeroAsStored ZeroAsOne ZerosOfDirectoryMoved LastGrainUnasked
     RoomBefore44 RoomBefore27 ByteMore ByteLess

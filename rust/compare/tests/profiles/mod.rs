@@ -4,23 +4,8 @@ use compare::side::{Plain, Side};
 use plain::{Head, Verdict};
 use std::ops::Range;
 
-/// Each of them but the first.
-macro_rules! mistakes {
-    ($($name:ident)*) => {
-        #[derive(Clone, Copy, Debug, PartialEq)]
-        pub enum Mistake {
-            /// None.
-            Remade,
-            $($name,)*
-        }
-
-        use Mistake::*;
-
-        pub const ALL: &[Mistake] = &[$($name),*];
-    };
-}
-
 mistakes! {
+    Remade:
     KindBeforeTheCheck PlaceDropped CowdMet PackedMet OpenMet OpenBefore23 SizesBefore23 SizesBefore27 FormBeforeSizes
     SizesMet GrainSize64Met GrainSize256Met CapacityUnjudged
     LengthNotCompared SectorsCounted LongerMet ShorterMet
