@@ -1,15 +1,18 @@
 -- How a comparison goes on, and how it ends.
-use Prim.Native.Nat.{ℕ, _+_, _*_, _≤_, _<_}
+use Prim.Native.Nat.{ℕ, zero, suc, _+_, _-_, _*_, _≤_, _<_}
 use mathlib.Core.Path.{_≡_, sym, ap, _∙_}
 use mathlib.Core.List.{List}
+use mathlib.Core.Logic.{⊎-elim}
 use native.Mathlib.Omega.{arith}
+use native.Mathlib.Nat.{add-zero}
 use lib.ListN.{length, getD, drop}
 use lib.Seq.{getD-take, getD-drop}
 use Rattle.base.specs.Numbers.{leAt, leBytes}
 use Rattle.base.specs.Bytes.{over, zeros}
 use Rattle.base.proofs.Numbers.{le-length, bytes-back}
 use Rattle.base.proofs.Over.{zeros-length, zeros-at, over-whole}
-use Rattle.alike.specs.FirstOther.{FirstOther, BytesOf}
+use Rattle.base.proofs.Steps.{lt-or-ge}
+use Rattle.alike.specs.FirstOther.{FirstOther, ZerosTo, BytesOf}
 
 -- the first i bytes of w stand there
 abbrev pub Same : List ℕ → ℕ → List ℕ → ℕ → Type 0
@@ -47,6 +50,30 @@ module _ (s : List ℕ) (at n i : ℕ) (zero : Zero s at i) where
 
   pub ended-zeros : n ≤ i → i ≤ n → FirstOther s at (zeros n) (at + i)
   ended-zeros l h = ended s at (zeros n) i as-zeros (omega (arith, zeros-length n)) (omega (arith, zeros-length n))
+
+-- a number that is 0 has no other bytes
+pub zero-bytes : (s : List ℕ) (at n : ℕ) → leAt s at n ≡ 0 → (i : ℕ) → i < n → getD s (at + i) 0 ≡ 0
+unfolding leAt
+zero-bytes s at zero e i l = absurd (omega arith)
+zero-bytes s at (suc n) e zero l = rw add-zero (omega arith)
+zero-bytes s at (suc n) e (suc i) l =
+    let q : at + suc i ≡ at + 1 + i = omega arith in rw q (zero-bytes s (at + 1) n (omega arith) i (omega arith))
+
+-- ---- zeros passed over
+pub passed-none : (s : List ℕ) (at n : ℕ) → ZerosTo s at n 0
+passed-none s at n = record { high = omega arith; zeros = λ i l. absurd (omega arith) }
+
+pub passed-word : (s : List ℕ) (at n i w : ℕ) → ZerosTo s at n i → 8 ≤ n - i → w ≡ leAt s (at + i) 8 → w ≡ 0
+    → ZerosTo s at n (i + 8)
+passed-word s at n i w p h e z =
+    record {
+      high = omega (arith, p .high);
+      zeros = λ k l. ⊎-elim (λ b. p .zeros k b)
+          (λ g.
+          let q : at + k ≡ at + i + (k - i) = omega arith in
+          rw q (zero-bytes s (at + i) 8 (sym e ∙ z) (k - i) (omega arith)))
+          (lt-or-ge k i);
+    }
 
 -- ---- a number
 pub four-bytes : (s : List ℕ) (at a b c d : ℕ) → a ≡ getD s at 0 → b ≡ getD s (at + 1) 0 → c ≡ getD s (at + 2) 0

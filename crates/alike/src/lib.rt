@@ -3,7 +3,7 @@ ghost use Prim.Native.Nat.{_+_, _≤_};
 ghost use lib.ListN.{length};
 ghost use Rattle.base.specs.Numbers.{leBytes};
 ghost use Rattle.base.specs.Bytes.{zeros};
-ghost use Rattle.alike.specs.FirstOther.{FirstOther, BytesOf};
+ghost use Rattle.alike.specs.FirstOther.{FirstOther, ZerosTo, BytesOf};
 
 // Of the bytes of `w`, which are to stand from `at` on.
 pub fn first_other(s: &[u8], at: usize, w: &[u8]) -> usize
@@ -20,12 +20,27 @@ pub fn first_other(s: &[u8], at: usize, w: &[u8]) -> usize
     at + i
 }
 
+// Past zeros eight bytes at a time, where as many are left of n: most gaps are nothing else.
+fn past_zero_words(s: &[u8], at: usize, n: usize) -> usize
+    requires { ⌜ at + n ≤ length (now s) ⌝ }
+    ensures { λ r. ⌜ ZerosTo (now (s .entry)) at n r ⌝ }
+{
+    let mut i = 0;
+    while 8 <= n - i {
+        if base::u64_at(s, at + i) != 0 {
+            return i;
+        }
+        i += 8;
+    }
+    i
+}
+
 // Of n zeros.
 pub fn first_nonzero(s: &[u8], at: usize, n: usize) -> usize
     requires { ⌜ at + n ≤ length (now s) ⌝ }
     ensures { λ r. ⌜ FirstOther (now (s .entry)) at (zeros n) r ⌝ }
 {
-    let mut i = 0;
+    let mut i = past_zero_words(s, at, n);
     while i < n {
         if s[at + i] != 0 {
             return at + i;

@@ -4,7 +4,7 @@ use mathlib.Core.Path.{_≡_, refl, sym, ap, _∙_}
 use mathlib.Core.List.{List}
 use native.Mathlib.Omega.{arith}
 use native.Mathlib.Nat.{add-zero}
-use lib.ListN.{length, getD}
+use lib.ListN.{length}
 use Rattle.base.specs.Pick.{pick}
 use Rattle.base.specs.Numbers.{leAt, leBytes}
 use Rattle.base.specs.Bytes.{SameBytes, zeros}
@@ -24,7 +24,7 @@ use Rattle.laws.proofs.LayoutNumbers.{some-size, sector-small}
 use Rattle.laws.proofs.LayoutBack.{entry-stands}
 use Rattle.blocks.specs.Blocks.{Passed}
 use Rattle.alike.specs.FirstOther.{FirstOther}
-use Rattle.alike.proofs.Compared.{ended}
+use Rattle.alike.proofs.Compared.{ended, zero-bytes}
 use Rattle.profile.specs.FormCompared.{formOf, compared, entryMeant, nextMeant, Published, AlikeTo, Laid}
 use Rattle.profile.proofs.FirstDifference.{shorter, longer, same-file}
 use Rattle.profile.proofs.Parts.{zeros-less}
@@ -94,13 +94,6 @@ module _ {s : List ℕ} {h : Header} (first all g next entry r : ℕ) (a : Alike
 abbrev pub After : List ℕ → Header → ℕ → ℕ → ℕ → Type 0
 After s h first next g =
     (AlikeTo (first + 4 * g) s h) × (next ≡ sectorOf Kdmv (h .capacity) (h .«grain_size») (grainMap s h) g)
-
-zero-bytes : (s : List ℕ) (at n : ℕ) → leAt s at n ≡ 0 → (i : ℕ) → i < n → getD s (at + i) 0 ≡ 0
-unfolding leAt
-zero-bytes s at zero e i l = absurd (omega arith)
-zero-bytes s at (suc n) e zero l = rw add-zero (omega arith)
-zero-bytes s at (suc n) e (suc i) l =
-    let q : at + suc i ≡ at + 1 + i = omega arith in rw q (zero-bytes s (at + 1) n (omega arith) i (omega arith))
 
 module _ (s : List ℕ) (h : Header) (first all next : ℕ) (i : first ≡ 512 * tablesAt Kdmv (h .capacity) (h .«grain_size»))
     (j : all ≡ grains (h .capacity) (h .«grain_size»)) where

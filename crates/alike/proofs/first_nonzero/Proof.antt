@@ -19,7 +19,10 @@ first-nonzero-spec =
     (tie.spec
     Inv-loop
     μ-loop
-    (λ loop-holds. search needs)
+    (λ past-zero-words-requires κs. search needs)
+    (λ c.
+    let passed = c .past-zero-words .ensures in
+    (passed .high, passed .zeros))
     (λ add-if1. search needs)
     (λ shared-slice-read-if1. search needs)
     (λ add-result. search needs)
