@@ -4,7 +4,7 @@ use crate::image::put;
 use crate::rng::Rng;
 use crate::run::Run;
 use crate::tally::Call;
-use crate::{frames, marks, moves, splits, surveys};
+use crate::{frames, marks, moves, profiles, splits, surveys};
 
 /// The longest image, in sectors.
 pub const MOST: u64 = (1 << 23) + (1 << 12);
@@ -88,6 +88,7 @@ fn far_case(run: &mut Run, memory: &mut [u8], rng: &mut Rng) {
     }
     frames::ask(run, rng, image);
     marks::ask(run, rng, image);
+    profiles::ask(run, image);
     // What is cut off is an image by itself.
     let cut = rng.pick(&[0, 1, 512, 1 << 32]);
     surveys::ask(run, rng, image, &[image.len() as u64 - cut, cut]);

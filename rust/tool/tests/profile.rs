@@ -102,7 +102,7 @@ fn own_bytes_answer_as_the_whole_file() {
 /// The normal form of what is refused 42 meets it.
 #[test]
 fn the_hint_leads_there() {
-    let folder = Folder::new().with(&["tool-base.vmdk", "tool-top.vmdk", "zeroed-grain-data.vmdk"]);
+    let folder = Folder::new().with(&["tool-base.vmdk", "tool-top.vmdk", "zeroed-grain.vmdk"]);
     for name in folder.names() {
         let ran = run(folder.path(), &["profile", &name]);
         assert!(ran.text().contains("refused 42 at byte "), "{name}");

@@ -14,6 +14,7 @@ fn main() {
     let calls = vec![
         Call::Check,
         Call::CheckIn,
+        Call::Profile,
         Call::Lookup,
         Call::Read,
         Call::Frame,

@@ -47,11 +47,11 @@ pub fn add(folder: &Folder) {
         image
     };
     write("published", &published());
-    write("padded", &with(&[(100, 1)]));
-    write("dirty-gap", &with(&[(V - 4, 1 << 24)]));
-    write("longer", &[published(), vec![0]].concat());
-    write("longer-sector", &[published(), vec![0; 512]].concat());
-    write("cut", &with(&[(1024, 0), (1032, 0)])[..V - 512]);
-    write("turned", &with(&[(1024, 256), (1032, 128)]));
-    write("odd-capacity", &with(&[(12, 383)]));
+    write("published-padded", &with(&[(100, 1)]));
+    write("published-gap", &with(&[(V - 4, 1 << 24)]));
+    write("published-longer", &[published(), vec![0]].concat());
+    write("published-sector", &[published(), vec![0; 512]].concat());
+    write("published-cut", &with(&[(1024, 0), (1032, 0)])[..V - 512]);
+    write("published-turned", &with(&[(1024, 256), (1032, 128)]));
+    write("published-odd", &with(&[(12, 383)]));
 }
