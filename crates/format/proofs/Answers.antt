@@ -5,7 +5,7 @@ use mathlib.Core.Bool.{false}
 use lib.Dec.{eqb}
 use Rattle.base.specs.Pick.{pick}
 use Rattle.format.specs.Answers.{number, place, verdict, markedNumbers, located, chained, written, framed, surveyed}
-use Rattle.format.specs.Answers.{mendedNumbers}
+use Rattle.format.specs.Answers.{mendedNumbers, closedNumbers}
 use Rattle.format.specs.declared.MisplacedPart.{MisplacedPart}
 use Rattle.format.specs.declared.MisplacedPart.the-variants.{Descriptor, Directory, RedundantDirectory}
 use Rattle.format.specs.declared.MisplacedPart.the-variants.{PrimaryTable, RedundantTable}
@@ -13,7 +13,7 @@ use Rattle.format.specs.declared.Refusal.{Refusal}
 use Rattle.format.specs.declared.Refusal.the-variants.{TooShort, Magic, Version, Newline, Flags, Sizes, Footer, Misplaced}
 use Rattle.format.specs.declared.Refusal.the-variants.{GrainPast, Marker, CopiesDiffer, SharedSector, SectorPast}
 use Rattle.format.specs.declared.Refusal.the-variants.{TooLittleRoom, LayersDiffer, NotCollapsible, LayerLengths}
-use Rattle.format.specs.declared.Refusal.the-variants.{StillOpen, NotMendable, NotNormal, NotMovable, ProfileSizes}
+use Rattle.format.specs.declared.Refusal.the-variants.{StillOpen, NotMendable, NotClosable, NotNormal, NotMovable, ProfileSizes}
 use Rattle.format.specs.declared.Source.{Source}
 use Rattle.format.specs.declared.Source.the-variants.{Absent, Zero, Stored, Packed}
 use Rattle.format.specs.declared.CheckAnswer.{CheckAnswer}
@@ -30,6 +30,9 @@ use Rattle.format.specs.declared.MarkedAnswer.{MarkedAnswer}
 use Rattle.format.specs.declared.MendAnswer.{MendAnswer}
 use Rattle.format.specs.declared.MendAnswer.the-variants.{Mended as mendedIn, Refused as notMended}
 use Rattle.format.specs.declared.Mended.{Mended}
+use Rattle.format.specs.declared.closing.CloseAnswer.{CloseAnswer}
+use Rattle.format.specs.declared.closing.CloseAnswer.the-variants.{Closed as closedIn, Refused as notClosed}
+use Rattle.format.specs.declared.closing.Closed.{Closed}
 use Rattle.format.specs.declared.Verdict.{Verdict}
 use Rattle.format.specs.declared.Marked.{Marked}
 use Rattle.format.specs.declared.Located.{Located}
@@ -71,7 +74,8 @@ refusalOf n p =
     (pick (eqb n 24) LayerLengths
     (pick (eqb n 27) StillOpen
     (pick (eqb n 40) NotMendable
-    (pick (eqb n 42) (NotNormal p) (pick (eqb n 44) NotMovable ProfileSizes))))))))))))))))))))
+    (pick (eqb n 41) NotClosable
+    (pick (eqb n 42) (NotNormal p) (pick (eqb n 44) NotMovable ProfileSizes)))))))))))))))))))))
 
 -- a refusal has its number and place, and the number is not 0
 record Told (r : Refusal) : Type 0 where
@@ -103,6 +107,7 @@ told NotCollapsible = record { back = refl; some = refl }
 told LayerLengths = record { back = refl; some = refl }
 told StillOpen = record { back = refl; some = refl }
 told NotMendable = record { back = refl; some = refl }
+told NotClosable = record { back = refl; some = refl }
 told (NotNormal byte) = record { back = refl; some = refl }
 told NotMovable = record { back = refl; some = refl }
 told ProfileSizes = record { back = refl; some = refl }
@@ -231,3 +236,16 @@ mend-back (notMended r) = rw (told r .some, told r .back)
 
 pub mend-alike : (a b : MendAnswer) → mendedNumbers a ≡ mendedNumbers b → a ≡ b
 mend-alike = lossless mendedNumbers mendOf mend-back
+
+-- ---- closing
+abbrev closeOf : Closed → CloseAnswer
+closeOf c =
+    pick (eqb (c .number) 0) (closedIn (c .sectors) (c .grains) (c .length)) (notClosed (refusalOf (c .number) (c .place)))
+
+close-back : (a : CloseAnswer) → closeOf (closedNumbers a) ≡ a
+unfolding pick
+close-back (closedIn k n long) = refl
+close-back (notClosed r) = rw (told r .some, told r .back)
+
+pub close-alike : (a b : CloseAnswer) → closedNumbers a ≡ closedNumbers b → a ≡ b
+close-alike = lossless closedNumbers closeOf close-back

@@ -9,7 +9,7 @@ use Rattle.format.specs.declared.Refusal.{Refusal}
 use Rattle.format.specs.declared.Refusal.the-variants.{TooShort, Magic, Version, Newline, Flags, Sizes, Footer, Misplaced}
 use Rattle.format.specs.declared.Refusal.the-variants.{GrainPast, Marker, CopiesDiffer, SharedSector, SectorPast}
 use Rattle.format.specs.declared.Refusal.the-variants.{TooLittleRoom, LayersDiffer, NotCollapsible, LayerLengths}
-use Rattle.format.specs.declared.Refusal.the-variants.{StillOpen, NotMendable, NotNormal, NotMovable, ProfileSizes}
+use Rattle.format.specs.declared.Refusal.the-variants.{StillOpen, NotMendable, NotClosable, NotNormal, NotMovable, ProfileSizes}
 use Rattle.format.specs.declared.Source.{Source}
 use Rattle.format.specs.declared.Source.the-variants.{Absent, Zero, Stored, Packed}
 use Rattle.format.specs.declared.HeaderAnswer.{HeaderAnswer}
@@ -37,6 +37,9 @@ use Rattle.format.specs.declared.Framed.{Framed}
 use Rattle.format.specs.declared.Surveyed.{Surveyed}
 use Rattle.format.specs.declared.Mended.{Mended}
 use Rattle.format.specs.declared.Head.{Head}
+use Rattle.format.specs.declared.closing.CloseAnswer.{CloseAnswer}
+use Rattle.format.specs.declared.closing.CloseAnswer.the-variants.{Closed as closedIn, Refused as closeRefused}
+use Rattle.format.specs.declared.closing.Closed.{Closed}
 use Rattle.format.specs.declared.Side.{Side}
 use Rattle.format.specs.declared.Side.the-variants.{Primary, Redundant}
 
@@ -61,6 +64,7 @@ number NotCollapsible = 23
 number LayerLengths = 24
 number StillOpen = 27
 number NotMendable = 40
+number NotClosable = 41
 number (NotNormal byte) = 42
 number NotMovable = 44
 number ProfileSizes = 47
@@ -95,6 +99,7 @@ place NotCollapsible = 0
 place LayerLengths = 0
 place StillOpen = 0
 place NotMendable = 0
+place NotClosable = 0
 place (NotNormal byte) = byte
 place NotMovable = 0
 place ProfileSizes = 0
@@ -181,3 +186,9 @@ sideOf good = pick (eqb good 0) Primary Redundant
 abbrev pub mendedNumbers : MendAnswer → Mended
 mendedNumbers (mendedIn count) = record { number = 0; place = 0; count = count }
 mendedNumbers (mendRefused r) = record { number = number r; place = place r; count = 0 }
+
+-- ---- closing: kept sectors, kept grains, the tail's length in bytes
+abbrev pub closedNumbers : CloseAnswer → Closed
+closedNumbers (closedIn sectors grains long) =
+    record { number = 0; place = 0; sectors = sectors; grains = grains; length = long }
+closedNumbers (closeRefused r) = record { number = number r; place = place r; sectors = 0; grains = 0; length = 0 }

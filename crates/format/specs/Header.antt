@@ -107,3 +107,15 @@ unfoldable pub judge : List ℕ → HeaderAnswer
 judge s =
     pick (ltb (length s) 4) (Refused TooShort)
     (pick (sameAt s 0 kdmvMagic) (judgeKdmv s) (pick (sameAt s 0 cowdMagic) (judgeCowd s) (Refused Magic)))
+
+-- ---- a start (request A12), which has no footer yet: 7 is not judged, and the directory sector is as sector 0 has it
+abbrev pub startOf : List ℕ → Header
+startOf s = kdmvHeader (kdmvFields s) (kdmvFields s .directory)
+
+unfoldable pub judgeKdmvStart : List ℕ → HeaderAnswer
+judgeKdmvStart s = pick (ltb (length s) 512) (Refused TooShort) (unlessFault (kdmvFault (kdmvFields s)) (Known (startOf s)))
+
+unfoldable pub judgeStart : List ℕ → HeaderAnswer
+judgeStart s =
+    pick (ltb (length s) 4) (Refused TooShort)
+    (pick (sameAt s 0 kdmvMagic) (judgeKdmvStart s) (pick (sameAt s 0 cowdMagic) (judgeCowd s) (Refused Magic)))

@@ -14,6 +14,9 @@ pub mod Layout
 pub mod Collapse
 pub mod Moves
 pub mod Profile
+pub mod Stream
+pub mod Tail
+pub mod Close
 pub mod Answers
 pub mod Survey
 pub mod CheckIn

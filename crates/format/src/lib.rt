@@ -1,4 +1,5 @@
 // The types that all calls pass round. What they mean is document 01, section by section, in specs/.
+pub mod closing;
 
 // Sector 0 of a KDMV image, field by field.
 pub struct KdmvFields {
@@ -59,7 +60,7 @@ pub enum MisplacedPart {
     RedundantTable,
 }
 
-// Why a call on images refuses, in the order of its numbers: 1 to 12, 20 to 24, 27, 40, 42, 44, 47. A case holds the part, the
+// Why a call on images refuses, in the order of its numbers: 1 to 12, 20 to 24, 27, 40 to 42, 44, 47. A case holds the part, the
 // grain or the byte that is its place.
 pub enum Refusal {
     TooShort,
@@ -81,6 +82,7 @@ pub enum Refusal {
     LayerLengths,
     StillOpen,
     NotMendable,
+    NotClosable,
     NotNormal(u64),
     NotMovable,
     ProfileSizes,
