@@ -27,10 +27,10 @@ use Rattle.format.proofs.HeaderKdmv.{kdmv-kept, kept-kdmv, kept-magic, 
 use Rattle.format.proofs.HeaderCowd.{cowd-kept, kept-cowd, cowd-magic}
 
 -- ---- the steps of a judgement
-known-same : (h l : Header) → Known h ≡ Known l → h ≡ l
+pub known-same : (h l : Header) → Known h ≡ Known l → h ≡ l
 known-same h l e = cc
 
-known-fault : (f : Fault) (a : HeaderAnswer) (h : Header) → unlessFault f a ≡ Known h → (f ≡ None) × (a ≡ Known h)
+pub known-fault : (f : Fault) (a : HeaderAnswer) (h : Header) → unlessFault f a ≡ Known h → (f ≡ None) × (a ≡ Known h)
 unfolding unlessFault
 known-fault None a h e = (refl, e)
 known-fault (Found r) a h e = let z : _≡_ {A = ℕ} 0 1 = cc in absurd (omega arith)

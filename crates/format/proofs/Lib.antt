@@ -35,3 +35,6 @@ pub mod FromGood
 pub mod MendedRead
 pub mod MendedAlike
 pub mod Mendable
+pub mod StreamKept
+pub mod StreamEntries
+pub mod HeaderStart

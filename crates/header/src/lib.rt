@@ -1,6 +1,6 @@
 // Judging a header: refusals 1 to 7, of both kinds, and the one record that all calls pass round.
 ghost use mathlib.Core.Path.{_≡_};
-ghost use Rattle.format.specs.Header.{judge};
+ghost use Rattle.format.specs.Header.{judge, judgeStart};
 ghost use Rattle.format.specs.Chain.{unlike};
 use format::Header;
 use format::HeaderAnswer;
@@ -15,6 +15,22 @@ pub fn judge(image: &[u8]) -> HeaderAnswer
     }
     if base::same_at(image, 0, b"KDMV") {
         return kdmv::judge(image);
+    }
+    if base::same_at(image, 0, b"COWD") {
+        return cowd::judge(image);
+    }
+    HeaderAnswer::Refused(Refusal::Magic)
+}
+
+// The same of a start, which has no footer to judge: the first of 1 to 6.
+pub fn judge_start(image: &[u8]) -> HeaderAnswer
+    ensures { λ r. ⌜ r ≡ judgeStart (now (image .entry)) ⌝ }
+{
+    if image.len() < 4 {
+        return HeaderAnswer::Refused(Refusal::TooShort);
+    }
+    if base::same_at(image, 0, b"KDMV") {
+        return kdmv::judge_start(image);
     }
     if base::same_at(image, 0, b"COWD") {
         return cowd::judge(image);

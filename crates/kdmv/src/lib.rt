@@ -5,7 +5,7 @@ ghost use lib.ListN.{length};
 ghost use Rattle.base.specs.Numbers.{leAt};
 ghost use Rattle.format.specs.Kdmv.{kdmvFields, versionBroken, newlineBroken, otherFlags, flagsBroken, atEnd, kdmvSizesBroken};
 ghost use Rattle.format.specs.Kdmv.{kdmvFault};
-ghost use Rattle.format.specs.Header.{kdmvOneIsZero, kdmvHeader, directoryOf, withFooter, judgeKdmv};
+ghost use Rattle.format.specs.Header.{kdmvOneIsZero, kdmvHeader, directoryOf, withFooter, judgeKdmv, judgeKdmvStart};
 ghost use Rattle.format.specs.Judged.{Sized};
 use footer::ALL_ONES;
 use footer::footer_broken;
@@ -179,5 +179,20 @@ pub fn judge(image: &[u8]) -> HeaderAnswer
     match found {
         Fault::Found(r) => HeaderAnswer::Refused(r),
         Fault::None => with_footer(image, k),
+    }
+}
+
+// A start has no footer yet: 3 to 6 alone, and the directory sector as sector 0 has it.
+pub fn judge_start(image: &[u8]) -> HeaderAnswer
+    ensures { λ r. ⌜ r ≡ judgeKdmvStart (now (image .entry)) ⌝ }
+{
+    if image.len() < 512 {
+        return HeaderAnswer::Refused(Refusal::TooShort);
+    }
+    let k = fields(image);
+    let found = fault(k);
+    match found {
+        Fault::Found(r) => HeaderAnswer::Refused(r),
+        Fault::None => HeaderAnswer::Known(header(k, k.directory)),
     }
 }

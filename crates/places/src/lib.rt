@@ -18,13 +18,19 @@ use format::Header;
 use format::MisplacedPart;
 use sizes::directory_entries;
 
-// One descriptor number zero and one not, or the descriptor past F.
-fn descriptor_misplaced(image: &[u8], h: Header) -> bool
-    ensures { λ r. ⌜ r ≡ descriptorMisplaced (fileSectors (now (image .entry))) h ⌝ }
+// One descriptor number zero and one not, or the descriptor past sector `end`.
+pub fn descriptor_past(end: u64, h: Header) -> bool
+    ensures { λ r. ⌜ r ≡ descriptorMisplaced end h ⌝ }
 {
     ((h.descriptor == 0) & !(h.descriptor_sectors == 0))
         | ((!(h.descriptor == 0) & (h.descriptor_sectors == 0))
-            | base::ends_past(h.descriptor, h.descriptor_sectors, file_sectors(image)))
+            | base::ends_past(h.descriptor, h.descriptor_sectors, end))
+}
+
+fn descriptor_misplaced(image: &[u8], h: Header) -> bool
+    ensures { λ r. ⌜ r ≡ descriptorMisplaced (fileSectors (now (image .entry))) h ⌝ }
+{
+    descriptor_past(file_sectors(image), h)
 }
 
 // The redundant directory past F, if there is one.

@@ -7,5 +7,5 @@ descriptor-misplaced-spec =
     tie.close
     (tie.spec
     (λ file-sectors-requires κs. search needs)
-    (λ ends-past-requires κs. search needs)
-    (λ c. rw (c .ends-past .ensures, c .before .file-sectors .ensures)))
+    (λ descriptor-past-requires κs. search needs)
+    (λ c. rw (c .descriptor-past .ensures, c .before .file-sectors .ensures)))
