@@ -1,0 +1,4 @@
+pub mod TailLeft
+pub mod TailBytes
+pub mod TailRows
+pub mod TailJoined
