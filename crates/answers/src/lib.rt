@@ -1,7 +1,7 @@
 // Answers in document 01's numbers, for whoever prints them or hands them on.
 ghost use mathlib.Core.Path.{_≡_};
 ghost use Rattle.format.specs.Answers.{number, partNumber, place, headerNumbers, verdict, markedNumbers, served, unserved};
-ghost use Rattle.format.specs.Answers.{located, chained, written, framed, surveyed, sideOf, mendedNumbers};
+ghost use Rattle.format.specs.Answers.{located, chained, written, framed, surveyed};
 use format::ChainAnswer;
 use format::CheckAnswer;
 use format::CollapseAnswer;
@@ -13,16 +13,15 @@ use format::Located;
 use format::LookupAnswer;
 use format::Marked;
 use format::MarkedAnswer;
-use format::MendAnswer;
-use format::Mended;
 use format::MisplacedPart;
 use format::Refusal;
-use format::Side;
 use format::Source;
 use format::SurveyAnswer;
 use format::Surveyed;
 use format::Verdict;
 use format::Written;
+
+pub mod repairs;
 
 // The number of a part that 8 names.
 fn part_number(part: MisplacedPart) -> u64
@@ -63,6 +62,7 @@ fn numbers_of(refusal: Refusal) -> Numbers
         Refusal::LayerLengths => Numbers(24, 0),
         Refusal::StillOpen => Numbers(27, 0),
         Refusal::NotMendable => Numbers(40, 0),
+        Refusal::NotClosable => Numbers(41, 0),
         Refusal::NotNormal(byte) => Numbers(42, byte),
         Refusal::NotMovable => Numbers(44, 0),
         Refusal::ProfileSizes => Numbers(47, 0),
@@ -263,35 +263,6 @@ pub fn surveyed_of(a: SurveyAnswer) -> Surveyed
                 zero: 0,
                 absent: 0,
                 packed: 0,
-            }
-        }
-    }
-}
-
-pub fn side_of(good: u64) -> Side
-    ensures { λ r. ⌜ r ≡ sideOf good ⌝ }
-{
-    if good == 0 {
-        return Side::Primary;
-    }
-    Side::Redundant
-}
-
-pub fn mended_of(a: MendAnswer) -> Mended
-    ensures { λ r. ⌜ r ≡ mendedNumbers a ⌝ }
-{
-    match a {
-        MendAnswer::Mended(count) => Mended {
-            number: 0,
-            place: 0,
-            count,
-        },
-        MendAnswer::Refused(refusal) => {
-            let told = numbers_of(refusal);
-            Mended {
-                number: told.0,
-                place: told.1,
-                count: 0,
             }
         }
     }

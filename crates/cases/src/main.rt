@@ -4,8 +4,8 @@
 // u64 each; then the bytes. What is asked: 0 the calls on one image; 1 the chain lookup; 2 the collapse of one to four layers;
 // 3 a text's extents, and which of them hold the sectors; 4 which of 32 records in the bytes hold the sectors; 5 the lookup and
 // the grain reader alone; 6 the frame; 7 the survey; 8 the lookup in a disk of several files, whose text the first length has;
-// 9 the check in a lent list; 10 mending, whose good side and room for words are the lengths; 11 both moves; 12 the profile.
-// The room is the length of the output, of the list or of the copy that is mended.
+// 9 the check in a lent list; 10 mending, whose good side and room for words are the lengths; 11 both moves; 12 the profile;
+// 13 closing. The room is the length of the output, of the list or of the copy that is mended.
 ghost use Prim.Native.Nat.{_≤_, _<_};
 ghost use lib.ListN.{length};
 use libc::STDIN_FILENO;
@@ -49,6 +49,10 @@ fn ask(what: u64, lengths: &[u8], bytes: &[u8], out: &mut [u8])
     }
     if what == 12 {
         cases_images::profile(bytes);
+        return;
+    }
+    if what == 13 {
+        cases_images::close(bytes, &mut *out);
     }
 }
 

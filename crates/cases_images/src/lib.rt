@@ -149,8 +149,8 @@ fn copy(from: &[u8], to: &mut [u8], n: usize)
 
 // Number, place, count, the digest of the image after the call, and the words of the list.
 fn mend_in(image: &mut [u8], good: u64, list: &mut [u64]) {
-    let side = answers::side_of(good);
-    let told = answers::mended_of(mend::mend(&mut *image, side, &mut *list));
+    let side = answers::repairs::side_of(good);
+    let told = answers::repairs::mended_of(mend::mend(&mut *image, side, &mut *list));
     programs::start(b"mend ");
     programs::put(told.number);
     programs::put(told.place);
@@ -235,4 +235,18 @@ pub fn moves(image: &[u8], out: &mut [u8]) {
 
 pub fn profile(image: &[u8]) {
     put_verdict(b"profile ", answers::verdict_of(profile::profile(image)));
+}
+
+// Number, place, kept sectors and grains, the tail's length, and the digest of the whole output.
+pub fn close(image: &[u8], out: &mut [u8]) {
+    programs::start(b"close ");
+    fill(&mut *out);
+    let told = answers::repairs::closed_of(close::close(image, &mut *out));
+    programs::put(told.number);
+    programs::put(told.place);
+    programs::put(told.sectors);
+    programs::put(told.grains);
+    programs::put(told.length);
+    programs::put(programs::digest(out));
+    programs::end();
 }

@@ -21,6 +21,7 @@ use Rattle.exports.proofs.anhkhovet_collapse as collapse
 use Rattle.exports.proofs.anhkhovet_to_kdmv as to-kdmv
 use Rattle.exports.proofs.anhkhovet_to_cowd as to-cowd
 use Rattle.exports.proofs.anhkhovet_profile as profile
+use Rattle.exports.proofs.anhkhovet_close as close
 use Rattle.exports.proofs.lists.anhkhovet_survey as survey
 use Rattle.exports.proofs.lists.anhkhovet_mend as mend
 use Rattle.exports.proofs.extents.anhkhovet_descriptor as descriptor
@@ -170,6 +171,10 @@ to-kdmv-determined =
 pub to-cowd-determined : Determined to-cowd.ended (λ M. to-cowd.spec)
 to-cowd-determined =
     written-apart to-cowd.ended _ _ _ (λ κs e. now (e .1 .0)) (λ κs a x. (tt, (x, tt))) (λ κs a ws. refl)
+
+pub close-determined : Determined close.ended (λ M. close.spec)
+close-determined =
+    written-apart close.ended _ _ _ (λ κs e. now (e .1 .0)) (λ κs a x. (tt, (x, tt))) (λ κs a ws. refl)
 
 pub survey-determined : Determined survey.ended (λ M. survey.spec)
 survey-determined =

@@ -10,7 +10,9 @@ ghost use Rattle.format.specs.Chain.{chainLookup};
 ghost use Rattle.format.specs.Collapse.{normal, normalOutput, collapse, collapseOutput};
 ghost use Rattle.format.specs.Moves.{toKdmv, toKdmvOutput, toCowd, toCowdOutput};
 ghost use Rattle.format.specs.Profile.{profile};
+ghost use Rattle.format.specs.Close.{close, closeOutput};
 ghost use Rattle.format.specs.Answers.{headerNumbers, verdict, markedNumbers, located, chained, written, framed};
+ghost use Rattle.format.specs.Answers.{closedNumbers};
 use format::Framed;
 use format::Head;
 use format::Located;
@@ -18,6 +20,7 @@ use format::Marked;
 use format::Part;
 use format::Verdict;
 use format::Written;
+use format::closing::Closed;
 
 mod extents;
 mod lists;
@@ -110,4 +113,12 @@ pub extern "C" fn anhkhovet_profile(image: &[u8]) -> Verdict
     ensures { λ r. ⌜ r ≡ verdict (profile (now (image .entry))) ⌝ }
 {
     answers::verdict_of(profile::profile(image))
+}
+
+#[no_mangle]
+pub extern "C" fn anhkhovet_close(image: &[u8], out: &mut [u8]) -> Closed
+    ensures { λ r. ⌜ r ≡ closedNumbers (close (now (image .entry)) (length (now (out .entry)))) ⌝ }
+    ensures { λ r. ⌜ now (out .exit) ≡ closeOutput (now (image .entry)) (now (out .entry)) ⌝ }
+{
+    answers::repairs::closed_of(close::close(image, &mut *out))
 }

@@ -32,6 +32,6 @@ pub extern "C" fn anhkhovet_mend(image: &mut [u8], good: u64, changes: &mut [u64
         × ((now (image .exit) ≡ mendedImage (now (image .entry)) (sideOf good) (now (changes .entry)))
         × (now (changes .exit) ≡ mendedList (now (image .entry)) (sideOf good) (now (changes .entry)))) ⌝ }
 {
-    let side = answers::side_of(good);
-    answers::mended_of(mend::mend(&mut *image, side, &mut *changes))
+    let side = answers::repairs::side_of(good);
+    answers::repairs::mended_of(mend::mend(&mut *image, side, &mut *changes))
 }

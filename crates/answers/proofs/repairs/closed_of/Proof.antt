@@ -1,9 +1,9 @@
 use borrow.Author.Needs.{needs}
-use Rattle.answers.proofs.mended_of.Statement.{statement}
-use Rattle.answers.proofs.mended_of.Tie as tie
+use Rattle.answers.proofs.repairs.closed_of.Statement.{statement}
+use Rattle.answers.proofs.repairs.closed_of.Tie as tie
 
-pub mended-of-spec : {M : Type 1} → statement M
-mended-of-spec =
+pub closed-of-spec : {M : Type 1} → statement M
+closed-of-spec =
     tie.close
     (tie.spec
     (λ enum-known-a. search needs)

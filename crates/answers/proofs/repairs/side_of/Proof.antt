@@ -1,8 +1,8 @@
 use mathlib.Core.Path.{sym}
 use borrow.Author.Tests.{eq-eqb, ne-eqb}
 use Rattle.format.proofs.Picked.{pick-then, pick-else}
-use Rattle.answers.proofs.side_of.Statement.{statement}
-use Rattle.answers.proofs.side_of.Tie as tie
+use Rattle.answers.proofs.repairs.side_of.Statement.{statement}
+use Rattle.answers.proofs.repairs.side_of.Tie as tie
 
 pub side-of-spec : {M : Type 1} → statement M
 side-of-spec =
