@@ -1,34 +1,32 @@
 -- What is known of a start where 41 was not given.
-use Prim.Native.Nat.{ℕ, _+_, _*_, _≤_}
+use Prim.Native.Nat.{ℕ, _*_, _≤_}
 use mathlib.Core.Path.{_≡_, sym, _∙_}
 use mathlib.Core.List.{List}
 use mathlib.Core.Bool.{Bool, true, false}
-use mathlib.Core.Logic.{⊎-elim}
 use native.Mathlib.Omega.{arith}
 use lib.Dec.{ltb}
 use lib.ListN.{length}
 use borrow.Author.Tests.{ltb-false}
 use Rattle.base.specs.Pick.{pick}
 use Rattle.base.specs.Strings.{sameAt}
-use Rattle.base.specs.SumsBelow.{sumBelow}
-use Rattle.base.proofs.Steps.{or-no, cond-all, true-or-false}
+use Rattle.base.proofs.Steps.{or-no, cond-all}
 use Rattle.base.proofs.Rounding.{ceil-most}
 use Rattle.base.proofs.SumsBelow.{sum-most}
-use Rattle.format.specs.Geometry.{fileSectors, directoryEntries, directorySectors}
+use Rattle.format.specs.Geometry.{fileSectors, directoryEntries}
 use Rattle.format.specs.Kdmv.{kdmvMagic}
 use Rattle.format.specs.Cowd.{cowdMagic}
 use Rattle.format.specs.Header.{directoryEntriesOf, judgeKdmvStart, judgeCowd, judgeStart}
 use Rattle.format.specs.Stream.{overhead, keptGrains}
-use Rattle.format.specs.Tail.{hasGrains, oneIfTable, newTables}
+use Rattle.format.specs.Tail.{hasGrains, oneIfTable}
 use Rattle.format.specs.Check.{descriptorMisplaced}
 use Rattle.format.specs.Close.{noStream, walkMisplaced, notClosable}
 use Rattle.format.specs.declared.Header.{Header}
 use Rattle.format.specs.declared.Refusal.the-variants.{Magic}
 use Rattle.format.specs.declared.HeaderAnswer.{HeaderAnswer}
-use Rattle.format.specs.declared.HeaderAnswer.the-variants.{Known, Refused}
+use Rattle.format.specs.declared.HeaderAnswer.the-variants.{Known}
 use Rattle.format.proofs.Geometry.{directory-room}
 use Rattle.format.proofs.Picked.{known-past}
-use Rattle.format.proofs.HeaderStart.{Started, started, StartSizes, started-sizes}
+use Rattle.format.proofs.HeaderStart.{started, StartSizes, started-sizes}
 use Rattle.walk.specs.Walked.{Walkable, Tallied}
 use Rattle.walk.specs.declared.Counted.{Counted}
 use Rattle.tail.specs.TailPut.{Walking}

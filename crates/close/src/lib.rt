@@ -1,10 +1,12 @@
 // Closing a download that broke off: the tail for what is kept of it, into lent output.
 ghost use mathlib.Core.Path.{_≡_};
+ghost use mathlib.Core.Bool.{_||_};
+ghost use lib.Dec.{ltb};
 ghost use Prim.Native.Nat.{_*_, _≤_};
 ghost use lib.ListN.{length};
 ghost use Rattle.format.specs.Geometry.{fileSectors};
 ghost use Rattle.format.specs.Header.{directoryEntriesOf, judgeStart};
-ghost use Rattle.format.specs.Close.{noStream, walkMisplaced, notClosable, tailOf, closeFrom, close, closeOutput};
+ghost use Rattle.format.specs.Close.{noStream, notClosable, tailOf, closeFrom, close, closeOutput};
 ghost use Rattle.format.specs.declared.HeaderAnswer.the-variants.{Known};
 ghost use Rattle.tail.specs.TailPut.{Walking};
 ghost use Rattle.close.specs.ClosedAs.{closedIfRoom, ClosedAs};
@@ -22,12 +24,9 @@ fn no_stream(h: Header) -> bool
 }
 
 // Too many sectors, or a walk that would start in the header or past the end.
-fn walk_misplaced(image: &[u8]) -> bool
-    requires { ⌜ 1 ≤ fileSectors (now image) ⌝ }
-    ensures { λ r. ⌜ r ≡ walkMisplaced (now (image .entry)) ⌝ }
+fn walk_misplaced(sectors: u64, start: u64) -> bool
+    ensures { λ r. ⌜ r ≡ (ltb 0x80000000 sectors || (ltb start 2 || ltb sectors start)) ⌝ }
 {
-    let sectors = entries::file_sectors(image);
-    let start = overhead(image);
     (0x80000000 < sectors) | ((start < 2) | (sectors < start))
 }
 
@@ -36,7 +35,9 @@ fn not_closable(image: &[u8], h: Header) -> bool
     requires { ⌜ 1 ≤ fileSectors (now image) ⌝ }
     ensures { λ r. ⌜ r ≡ notClosable (now (image .entry)) h ⌝ }
 {
-    no_stream(h) | (walk_misplaced(image) | places::descriptor_past(overhead(image), h))
+    let sectors = entries::file_sectors(image);
+    let start = overhead(image);
+    no_stream(h) | (walk_misplaced(sectors, start) | places::descriptor_past(start, h))
 }
 
 // 21, or the tail written.

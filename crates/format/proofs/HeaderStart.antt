@@ -2,7 +2,7 @@
 use Prim.Native.Nat.{ℕ, _*_, _≤_}
 use mathlib.Core.Path.{_≡_, refl, sym, ap, _∙_}
 use mathlib.Core.List.{List}
-use mathlib.Core.Bool.{Bool, true, false, not, true≢false}
+use mathlib.Core.Bool.{true, false, not, true≢false}
 use mathlib.Core.Logic.{⊎-elim}
 use native.Mathlib.Omega.{arith}
 use lib.Dec.{ltb, eqb}
@@ -16,7 +16,7 @@ use Rattle.format.specs.Geometry.{directoryEntries, directorySectors}
 use Rattle.format.specs.Kdmv.{kdmvMagic, kdmvFields, versionBroken, newlineBroken, flagsBroken, capacityBroken}
 use Rattle.format.specs.Kdmv.{grainSizeBroken, kdmvSizesBroken, kdmvFault}
 use Rattle.format.specs.Cowd.{cowdMagic, cowdFields, cowdFault}
-use Rattle.format.specs.Header.{kdmvHeader, cowdHeader, startOf, cowdHeaderOf, judgeKdmvStart, judgeCowd, judgeStart}
+use Rattle.format.specs.Header.{kdmvHeader, cowdHeader, startOf, judgeKdmvStart, judgeCowd, judgeStart}
 use Rattle.format.specs.Accepted.{Capacity, GrainSize}
 use Rattle.format.specs.declared.KdmvFields.{KdmvFields}
 use Rattle.format.specs.declared.Header.{Header}

@@ -1,23 +1,23 @@
 -- Entries and tables of kept grains: none below the first number, none past the directory entries in use, and one table more
 -- for a grain in front of others.
 use Prim.Native.Nat.{ℕ, zero, suc, _+_, _*_, _/_, _≤_, _<_}
-use mathlib.Core.Path.{_≡_, refl, sym, _∙_}
-use mathlib.Core.List.{List, [], _∷_}
-use mathlib.Core.Bool.{Bool, true, false, _||_}
+use mathlib.Core.Path.{_≡_, refl, _∙_}
+use mathlib.Core.List.{List, _∷_}
+use mathlib.Core.Bool.{Bool, true, false}
 use mathlib.Core.Logic.{⊎-elim}
 use native.Mathlib.Omega.{arith}
 use lib.Dec.{eqb}
 use borrow.Author.Tests.{eq-eqb, ne-eqb}
 use Rattle.base.specs.Pick.{pick}
 use Rattle.base.specs.SumsBelow.{sumBelow}
-use Rattle.base.proofs.Steps.{lt-or-ge, true-or-false}
+use Rattle.base.proofs.Steps.{lt-or-ge}
 use Rattle.base.proofs.SumsBelow.{sum-same}
 use Rattle.format.specs.Header.{directoryEntriesOf}
 use Rattle.format.specs.Stream.{KeptGrain}
 use Rattle.format.specs.Tail.{keptEntry, hasGrains, oneIfTable, tablesBelow}
 use Rattle.format.specs.declared.Header.{Header}
 use Rattle.format.proofs.Geometry.{entry-used}
-use Rattle.format.proofs.StreamKept.{Ascends, WholeGrain}
+use Rattle.format.proofs.StreamKept.{Ascends}
 use Rattle.format.proofs.StreamKept.Ascends.{none, some}
 
 one-more : (b : Bool) → 1 ≡ pick b 0 1 + pick b 1 0

@@ -1,5 +1,5 @@
 -- A stream (request A12): the walk over the blocks of a download that broke off, and the grains that it keeps. In all
--- definitions s is the start's bytes, h its header, p a sector and `next` the number after the last grain's, 0 before the first.
+-- definitions s is the start's bytes, h its header, p a sector and `next` the number after the last grain's, at first 0.
 use Prim.Native.Nat.{ℕ, zero, suc, _+_, _*_, _/_, _%_}
 use mathlib.Core.List.{List, [], _∷_}
 use mathlib.Core.Bool.{Bool, true, not, _||_}

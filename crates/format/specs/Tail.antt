@@ -24,7 +24,7 @@ unfoldable pub hasGrains : List KeptGrain → ℕ → Bool
 hasGrains [] d = false
 hasGrains (k ∷ l) d = eqb (k .number / 512) d || hasGrains l d
 
--- ---- where the parts stand: a table for each directory entry with grains, behind its marker; then the directory behind its own
+-- ---- where the parts stand: a table for each directory entry with grains, behind its marker; then the directory behind one
 abbrev pub oneIfTable : List KeptGrain → ℕ → ℕ
 oneIfTable l d = pick (hasGrains l d) 1 0
 

@@ -60,8 +60,8 @@ pub enum MisplacedPart {
     RedundantTable,
 }
 
-// Why a call on images refuses, in the order of its numbers: 1 to 12, 20 to 24, 27, 40 to 42, 44, 47. A case holds the part, the
-// grain or the byte that is its place.
+// Why a call on images refuses, in the order of its numbers: 1 to 12, 20 to 24, 27, 40 to 42, 44, 47. A case holds the part,
+// the grain or the byte that is its place.
 pub enum Refusal {
     TooShort,
     Magic,

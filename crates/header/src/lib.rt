@@ -32,10 +32,7 @@ pub fn judge_start(image: &[u8]) -> HeaderAnswer
     if base::same_at(image, 0, b"KDMV") {
         return kdmv::judge_start(image);
     }
-    if base::same_at(image, 0, b"COWD") {
-        return cowd::judge(image);
-    }
-    HeaderAnswer::Refused(Refusal::Magic)
+    judge(image)
 }
 
 // 22: two capacities or two grain sizes differ.

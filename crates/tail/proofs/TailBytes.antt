@@ -1,7 +1,7 @@
 -- Markers, tables and the last three sectors written part after part.
-use Prim.Native.Nat.{ℕ, _+_, _-_, _*_, _≤_}
-use mathlib.Core.Path.{_≡_, refl, sym, ap, _∙_}
-use mathlib.Core.List.{List, [], _∷_, _++_, append-assoc}
+use Prim.Native.Nat.{ℕ, _+_, _-_, _≤_}
+use mathlib.Core.Path.{_≡_, refl, ap, _∙_}
+use mathlib.Core.List.{List, _++_, append-assoc}
 use native.Mathlib.Omega.{arith}
 use lib.ListN.{length, take, drop, length-append, length-take, length-drop}
 use lib.Seq.{take-take}
@@ -9,7 +9,7 @@ use Rattle.base.specs.Numbers.{leBytes}
 use Rattle.base.specs.Bytes.{over, zeros}
 use Rattle.base.specs.Rows.{rows, entryBytes}
 use Rattle.base.proofs.Numbers.{le-length, le-ends}
-use Rattle.base.proofs.Over.{Wrote, first, last, more, zeros-length}
+use Rattle.base.proofs.Over.{first, last, more, zeros-length}
 use Rattle.format.specs.Geometry.{bytesAt}
 use Rattle.format.specs.Stream.{KeptGrain}
 use Rattle.format.specs.Tail.{markerBytes, newEntry, footerBytes}

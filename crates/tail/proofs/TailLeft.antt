@@ -1,7 +1,7 @@
 -- What is left of the walk as entries are written, grain by grain.
 use Prim.Native.Nat.{ℕ, _+_, _*_, _/_, _≤_, _<_}
-use mathlib.Core.Path.{_≡_, refl, sym, ap, _∙_}
-use mathlib.Core.List.{List, [], _∷_}
+use mathlib.Core.Path.{_≡_, _∙_}
+use mathlib.Core.List.{List, _∷_}
 use mathlib.Core.Bool.{true, false}
 use native.Mathlib.Omega.{arith}
 use borrow.Author.Tests.{eq-eqb, ne-eqb}
@@ -9,7 +9,7 @@ use Rattle.format.specs.Stream.{overhead, keptGrains}
 use Rattle.format.specs.Tail.{keptEntry, hasGrains}
 use Rattle.format.specs.declared.Header.{Header}
 use Rattle.format.proofs.StreamEntries.{entry-first, entry-other, has-other}
-use Rattle.walk.specs.Walked.{Walkable, noGrain, restOf, Standing, Next}
+use Rattle.walk.specs.Walked.{noGrain, restOf, Next}
 use Rattle.walk.specs.declared.NextGrain.{NextGrain}
 use Rattle.walk.proofs.WalkRest.{grainOf, afterOf, rest-some, rest-entry, rest-has}
 use Rattle.tail.specs.TailPut.{Walking, Left}

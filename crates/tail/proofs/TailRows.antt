@@ -1,7 +1,7 @@
 -- Directory entries and tables, written in one loop.
 use Prim.Native.Nat.{ℕ, zero, suc, _+_, _-_, _*_, _/_, _≤_, _<_}
-use mathlib.Core.Path.{_≡_, refl, sym, ap, _∙_}
-use mathlib.Core.List.{List, [], _∷_}
+use mathlib.Core.Path.{_≡_, refl, ap, _∙_}
+use mathlib.Core.List.{List, []}
 use mathlib.Core.Bool.{Bool, true, false}
 use native.Mathlib.Omega.{arith}
 use native.Mathlib.Numerals.{add-one}
@@ -11,7 +11,6 @@ use Rattle.base.specs.Numbers.{leBytes}
 use Rattle.base.specs.Bytes.{over}
 use Rattle.base.specs.Rows.{rows, entryBytes}
 use Rattle.base.specs.SumsBelow.{sumBelow}
-use Rattle.base.proofs.Steps.{cond-all}
 use Rattle.base.proofs.Numbers.{le-length}
 use Rattle.base.proofs.Over.{over-none, over-length}
 use Rattle.base.proofs.OverApart.{over-swap}
@@ -22,7 +21,6 @@ use Rattle.format.specs.Stream.{KeptGrain, keptGrains}
 use Rattle.format.specs.Tail.{hasGrains, oneIfTable, tablesBelow, newTables, newEntry, tableParts}
 use Rattle.format.specs.Tail.{newDirectoryEntry}
 use Rattle.format.specs.declared.Header.{Header}
-use Rattle.format.proofs.Picked.{pick-then, pick-else}
 use Rattle.layout.proofs.EntryRuns.{rows-none, rows-more, entries-more, entries-long}
 use Rattle.walk.specs.declared.NextGrain.{NextGrain}
 use Rattle.tail.specs.TailPut.{Walking, Left, tableOf, RowReady, RowPut, withRows}
@@ -106,7 +104,8 @@ module _ (s : List ℕ) (h : Header) (w : Walking s h) (end directory n : ℕ) (
     bytes = rows-none _ before 0 ∙ rows-none _ _ directory;
   }
 
-  module _ (d : ℕ) (b : d < n) (xs : List ℕ) (tables : ℕ) (c : NextGrain) (k : Done s h end directory before d xs tables c) where
+  module _ (d : ℕ) (b : d < n) (xs : List ℕ) (tables : ℕ) (c : NextGrain)
+      (k : Done s h end directory before d xs tables c) where
     within : 2560 * (tablesBelow l d + oneIfTable l d) ≤ directory
     within = omega (arith, rw (← is) at fits, tables-within l d n b)
 

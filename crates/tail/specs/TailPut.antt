@@ -6,9 +6,8 @@ use Rattle.base.specs.Numbers.{leBytes}
 use Rattle.base.specs.Bytes.{over, zeros}
 use Rattle.base.specs.Rows.{rows, allOf, entryBytes}
 use Rattle.format.specs.Geometry.{fileSectors}
-use Rattle.format.specs.Header.{directoryEntriesOf}
 use Rattle.format.specs.Stream.{overhead, KeptGrain, keptGrains}
-use Rattle.format.specs.Tail.{keptEntry, hasGrains, oneIfTable, tablesBelow, newTables, markerBytes, newEntry, tableParts}
+use Rattle.format.specs.Tail.{keptEntry, hasGrains, oneIfTable, tablesBelow, markerBytes, newEntry, tableParts}
 use Rattle.format.specs.Tail.{newDirectoryEntry, footerBytes}
 use Rattle.format.specs.declared.Header.{Header}
 use Rattle.walk.specs.Walked.{Walkable, restOf, Standing}

@@ -144,7 +144,8 @@ fn put_last(out: &mut [u8], at: usize, image: &[u8], directory: u64)
 // The whole tail, over the front of the output.
 pub fn write_tail(out: &mut [u8], image: &[u8], h: Header, kept: Counted)
     requires { ⌜ Walking (now image) h × Tallied (now image) h kept ⌝ }
-    requires { ⌜ (directoryEntriesOf h * 4 ≤ 512 * h .«directory_sectors») × (512 * tailSectors h (keptGrains (now image) h) ≤ length (now out)) ⌝ }
+    requires { ⌜ (directoryEntriesOf h * 4 ≤ 512 * h .«directory_sectors»)
+        × (512 * tailSectors h (keptGrains (now image) h) ≤ length (now out)) ⌝ }
     ensures { λ _. ⌜ now (out .exit) ≡ over (now (out .entry)) 0 (tailOf (now (image .entry)) h) ⌝ }
 {
     let n = directory_entries(h.capacity, h.entries_per_table, h.grain_size);

@@ -1,25 +1,22 @@
 -- The loop that counts what is kept.
-use Prim.Native.Nat.{ℕ, _+_, _*_, _/_, _≤_, _<_}
-use mathlib.Core.Path.{_≡_, refl, sym, ap, _∙_}
+use Prim.Native.Nat.{ℕ, _+_, _/_, _≤_, _<_}
+use mathlib.Core.Path.{_≡_, refl, _∙_}
 use mathlib.Core.List.{List, [], _∷_}
-use mathlib.Core.Bool.{Bool}
 use native.Mathlib.Omega.{arith}
 use native.Mathlib.Nat.{zero-add}
 use lib.Dec.{eqb}
 use lib.ListN.{length}
 use Rattle.base.specs.Pick.{pick}
-use Rattle.base.specs.SumsBelow.{sumBelow}
 use Rattle.base.proofs.SumsBelow.{sum-none}
 use Rattle.format.specs.Geometry.{fileSectors}
 use Rattle.format.specs.Header.{directoryEntriesOf}
-use Rattle.format.specs.Stream.{overhead, KeptGrain, keptGrains, grainsEnd, keptSectors}
+use Rattle.format.specs.Stream.{overhead, keptGrains, grainsEnd, keptSectors}
 use Rattle.format.specs.Tail.{hasGrains, tablesBelow, newTables}
 use Rattle.format.specs.declared.Header.{Header}
 use Rattle.format.proofs.StreamEntries.{table-more}
 use Rattle.walk.specs.Walked.{Walkable, noGrain, restOf, Standing, Next, Tallied}
 use Rattle.walk.specs.declared.NextGrain.{NextGrain}
-use Rattle.walk.specs.declared.Counted.{Counted}
-use Rattle.walk.proofs.WalkRest.{grainOf, afterOf, rest-some, rest-none, rest-has}
+use Rattle.walk.proofs.WalkRest.{grainOf, rest-some, rest-none, rest-has}
 
 no-tables : (n : ℕ) → tablesBelow [] n ≡ 0
 unfolding hasGrains pick

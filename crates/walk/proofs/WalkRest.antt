@@ -1,8 +1,7 @@
 -- What is left of the walk from its next grain on: that grain and what comes after it, or nothing.
 use Prim.Native.Nat.{ℕ, _+_, _*_, _/_, _≤_, _<_}
-use mathlib.Core.Path.{_≡_, refl, sym, ap, _∙_}
+use mathlib.Core.Path.{_≡_, refl, sym, _∙_}
 use mathlib.Core.List.{List, [], _∷_}
-use mathlib.Core.Bool.{Bool, true, false}
 use mathlib.Core.Logic.{⊎-elim}
 use native.Mathlib.Omega.{arith}
 use lib.Dec.{ltb, eqb}
@@ -15,7 +14,7 @@ use Rattle.format.specs.Tail.{keptEntry, hasGrains}
 use Rattle.format.specs.declared.Header.{Header}
 use Rattle.format.proofs.StreamKept.{Ascends, walk-ascends}
 use Rattle.format.proofs.StreamEntries.{has-first, has-other, has-none, entry-other, entry-none}
-use Rattle.walk.specs.Walked.{Walkable, noGrain, restOf, Standing}
+use Rattle.walk.specs.Walked.{Walkable, noGrain, restOf}
 use Rattle.walk.specs.declared.NextGrain.{NextGrain}
 
 abbrev pub grainOf : NextGrain → KeptGrain

@@ -1,21 +1,19 @@
 -- A step of the walk, as the code takes it, and what is left from the next grain on.
-use Prim.Native.Nat.{ℕ, zero, suc, _+_, _-_, _*_, _/_, _≤_, _<_}
-use mathlib.Core.Path.{_≡_, refl, sym, ap, _∙_}
-use mathlib.Core.List.{List, [], _∷_}
-use mathlib.Core.Bool.{Bool, true, false}
+use Prim.Native.Nat.{ℕ, suc, _+_, _-_, _≤_, _<_}
+use mathlib.Core.Path.{_≡_, sym, ap, _∙_}
+use mathlib.Core.List.{List}
 use native.Mathlib.Omega.{arith}
 use lib.Dec.{ltb}
-use borrow.Author.Tests.{lt-ltb, le-ltb}
+use borrow.Author.Tests.{lt-ltb}
 use Rattle.base.specs.Pick.{pick}
 use Rattle.format.specs.Geometry.{fileSectors}
-use Rattle.format.specs.Stream.{blockAt, KeptGrain, keptGrain, walkOn, walk, walkFrom}
+use Rattle.format.specs.Stream.{blockAt, walkOn, walk, walkFrom}
 use Rattle.format.specs.declared.Header.{Header}
 use Rattle.format.specs.declared.closing.Block.{Block}
 use Rattle.format.specs.declared.closing.Block.the-variants.{Stop, Other, Grain}
-use Rattle.format.proofs.StreamKept.{Told, block-told, walk-enough, WholeGrain}
+use Rattle.format.proofs.StreamKept.{Told, block-told, walk-enough}
 use Rattle.format.proofs.Geometry.{grains-few, entry-used}
-use Rattle.walk.specs.Walked.{Walkable, noGrain, restOf, Standing, Next}
-use Rattle.walk.specs.declared.NextGrain.{NextGrain}
+use Rattle.walk.specs.Walked.{Walkable, noGrain, restOf, Next}
 
 module _ (s : List ℕ) (h : Header) (w : Walkable h) (p next : ℕ) where
   step : walkFrom s h p next ≡ walkOn (blockAt s h p next) p next (walkFrom s h)

@@ -66,8 +66,8 @@ fn stream_grain(image: &[u8], h: Header, p: u64, next: u64) -> Block
     requires { ⌜ Walkable h × (p < fileSectors (now image)) ⌝ }
     ensures { λ r. ⌜ r ≡ streamGrain (now (image .entry)) h p next ⌝ }
 {
-    let sectors = grain_sectors(image, true, h.grain_size, p);
-    if base::ends_past(p, sectors, file_sectors(image)) {
+    let whole = grain_sectors(image, true, h.grain_size, p);
+    if base::ends_past(p, whole, file_sectors(image)) {
         return Block::Stop;
     }
     let first = base::u64_at(image, (512 * p) as usize);
@@ -76,7 +76,7 @@ fn stream_grain(image: &[u8], h: Header, p: u64, next: u64) -> Block
     }
     Block::Grain {
         number: first / h.grain_size,
-        sectors,
+        sectors: whole,
     }
 }
 

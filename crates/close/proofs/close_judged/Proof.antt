@@ -11,7 +11,9 @@ close-judged-spec =
     (tie.spec
     (λ c κs. let long = known-long _ _ (c .before .before .pre) in omega arith)
     (λ c. not-taken _ _ _ _ (c .before .not-closable .ensures) (c .if1 .taken))
-    (λ c κs. walking-of _ _ (c .before .before .before .before .before .pre) (c .before .before .not-closable .ensures) (c .before .if1 .left))
+    (λ c κs.
+    let i = c .before in
+    walking-of _ _ (i .before .before .before .before .pre) (i .before .not-closable .ensures) (i .if1 .left))
     (λ same-length. search needs)
     (λ c.
     let i = c .before .before .before .before in

@@ -25,4 +25,6 @@ write-closed-spec =
     (λ c. too-short _ _ _ (c .before .before .before .count .ensures) _ _ (omega arith))
     (λ write-tail-requires κs. search needs)
     (λ same-length. search needs)
-    (λ c. written _ _ _ (c .before .before .before .before .before .before .before .count .ensures) _ _ (omega arith) _ (c .before .before .write-tail .ensures)))
+    (λ c.
+    let w = c .before .before in
+    written _ _ _ (w .before .before .before .before .before .count .ensures) _ _ (omega arith) _ (w .write-tail .ensures)))

@@ -1,3 +1,5 @@
+use native.Mathlib.Omega.{arith}
+use Rattle.header.proofs.HeaderAnswered.{not-kdmv}
 use Rattle.format.specs.Header.{judgeStart}
 use Rattle.base.proofs.Steps.{steps}
 use borrow.Author.Needs.{needs}
@@ -14,8 +16,5 @@ judge-start-spec =
     (λ same-at-requires κs. search needs)
     (λ judge-start-requires κs. search needs)
     (λ returns-2. search steps depth 8)
-    (λ slice-aggregate-same-at-2. search needs)
-    (λ same-at-requires-2 κs. search needs)
     (λ judge-requires κs. search needs)
-    (λ returns-3. search steps depth 8)
-    (λ returns-4. search steps depth 8))
+    (λ c. not-kdmv _ _ (c .judge .ensures) (omega arith) (c .before .before .same-at .ensures) (c .before .if2 .left)))

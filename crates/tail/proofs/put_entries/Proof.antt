@@ -6,6 +6,7 @@ use lib.ListN.{length}
 use Rattle.layout.proofs.EntryRuns.{rows-none, entries-more}
 use Rattle.base.specs.Bytes.{over}
 use Rattle.format.specs.Stream.{keptGrains}
+use Rattle.format.specs.Tail.{keptEntry}
 use Rattle.tail.specs.TailPut.{Left, entriesFrom}
 use borrow.Author.Needs.{needs}
 use Rattle.tail.proofs.put_entries.Statement.{statement}
@@ -34,15 +35,16 @@ put-entries-spec =
     (λ loop-less. search needs)
     (λ c.
     let l = c .before .before .before .before .before .loop in
-    let p = c .before .before .put-entry .ensures in (
+    let p = c .before .before .put-entry .ensures in
+    let a = c .before .before .before .before .before .before .before .before .args in (
       omega arith,
       search needs,
-      entries-more _ _ _ _ _ _ _ (p .0) refl (l .inv .2) (omega arith),
+      entries-more _ _ _ _ _ _ _ (p .0)
+          (refl {a = keptEntry (keptGrains (a .image .now) (a .h)) (a .g + l .k)}) (l .inv .2) (omega arith),
       rw (← add-assoc) (p .1),
     ))
     (λ same-length. search needs)
     (λ c.
-    let a = c .before .before .before .before .args in
     let l = c .before .loop in
     let q : l .k ≡ 512 = omega arith in
     (rw q at (l .inv .2), rw q at (l .inv .3))))

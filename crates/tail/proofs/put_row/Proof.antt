@@ -22,8 +22,12 @@ put-row-spec =
     (λ add-t16. search needs)
     (λ same-length. search needs)
     (λ c.
-    let t = c .before .before .before .before .before .before .put-table in
-    row-yes _ _ _ _ _ _ _ _ (c .before .before .before .before .before .before .before .before .before .before .before .before .pre .0) _ _ _ _ (omega arith) (t .ensures .0) (t .ensures .1) (c .before .before .put-u32 .ensures))
+    let t = c .before .before .before .before .before .before in
+    let p = t .before .before .before .before .before .before .pre .0 in
+    row-yes _ _ _ _ _ _ _ _ p _ _ _ _ (omega arith) (t .put-table .ensures .0) (t .put-table .ensures .1)
+    (c .before .before .put-u32 .ensures))
     (λ put-u32-requires-2 κs. search needs)
     (λ same-length-2. search needs)
-    (λ c. row-no _ _ _ _ _ _ _ _ (c .before .before .before .before .before .before .before .before .pre .0) _ _ (λ q. omega arith) (c .before .before .put-u322 .ensures)))
+    (λ c.
+    let p = c .before .before .before .before .before .before .before .before .pre .0 in
+    row-no _ _ _ _ _ _ _ _ p _ _ (λ q. omega arith) (c .before .before .put-u322 .ensures)))

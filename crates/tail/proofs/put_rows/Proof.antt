@@ -29,7 +29,8 @@ put-rows-spec =
     (λ c κs.
     let a = c .before .before .before .before .before .before .before in
     let l = c .before .before .loop in (
-      row-ready _ _ (a .pre .0 .0) _ _ _ _ (a .pre .0 .1) (a .pre .0 .2) (a .pre .1 .0) (a .pre .1 .1) _ (omega arith) _ _ _ (l .inv .1),
+      row-ready _ _ (a .pre .0 .0) _ _ _ _ (a .pre .0 .1) (a .pre .0 .2) (a .pre .1 .0) (a .pre .1 .1) _
+          (omega arith) _ _ _ (l .inv .1),
       a .pre .0 .3,
     ))
     (λ add-d. search needs)
@@ -38,11 +39,11 @@ put-rows-spec =
     let a = c .before .before .before .before .before .before .before .before .before .before .before in
     let l = c .before .before .before .before .before .before .loop in (
       omega arith,
-      done-more _ _ (a .pre .0 .0) _ _ _ _ (a .pre .0 .1) (a .pre .0 .2) (a .pre .1 .0) (a .pre .1 .1) _ (omega arith) _ _ _ (l .inv .1) _ _
-          (c .before .before .before .put-row .ensures),
+      done-more _ _ (a .pre .0 .0) _ _ _ _ (a .pre .0 .1) (a .pre .0 .2) (a .pre .1 .0) (a .pre .1 .1) _
+          (omega arith) _ _ _ (l .inv .1) _ _ (c .before .before .before .put-row .ensures),
     ))
     (λ same-length. search needs)
     (λ c.
     let a = c .before .before .before .before .before .before in
-    done-all _ _ (a .pre .0 .0) _ _ _ _ (a .pre .0 .1) (a .pre .0 .2) (a .pre .1 .0) (a .pre .1 .1) _ _ _ _ (c .before .loop .inv .1)
-    (omega arith) (omega arith)))
+    done-all _ _ (a .pre .0 .0) _ _ _ _ (a .pre .0 .1) (a .pre .0 .2) (a .pre .1 .0) (a .pre .1 .1) _ _ _ _
+    (c .before .loop .inv .1) (omega arith) (omega arith)))

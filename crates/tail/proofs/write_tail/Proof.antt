@@ -30,7 +30,7 @@ write-tail-spec =
     let c3 = c4 .before .before .before .before .before .before in
     let c2 = c3 .before .before .before .before in
     let c1 = c2 .before .before .before .before in
-    let a = c .before .before .before .before .before .before .before .before .before .before .before .before .before .before .before .before .before .before .before .before .before .before .before .pre in
-    let e = c1 .before .before .before .before .directory-entries .ensures .0 in
-    tail-joined _ _ (a .0 .0) _ e (omega arith) _ (a .0 .1) _ (a .1 .1) _ _ _ _ (c1 .put-rows .ensures)
-    (c2 .put-marker .ensures) (c3 .fill .ensures) (c4 .put-last .ensures)))
+    let e = c1 .before .before .before .before in
+    let a = e .before .before .before .pre in
+    tail-joined _ _ (a .0 .0) _ (e .directory-entries .ensures .0) (omega arith) _ (a .0 .1) _ (a .1 .1) _ _ _ _
+    (c1 .put-rows .ensures) (c2 .put-marker .ensures) (c3 .fill .ensures) (c4 .put-last .ensures)))

@@ -28,10 +28,11 @@ count-spec =
     (λ ends-table-requires κs. search needs)
     (λ add-tables. search needs)
     (λ c.
-    let l = c .before .before .before .before .before .before .loop in
-    counting-less _ _ (c .before .before .before .before .before .before .before .before .before .before .pre .0) _ _ _ _ (l .inv) _ (omega arith) (c .before .next-grain2 .ensures))
+    let l = c .before .before .before .before .before .before in
+    counting-less _ _ (l .before .before .before .before .pre .0) _ _ _ _ (l .loop .inv) _ (omega arith)
+    (c .before .next-grain2 .ensures))
     (λ c.
-    let l = c .before .before .before .before .before .before .loop in
-    counting-on _ _ (c .before .before .before .before .before .before .before .before .before .before .pre .0) _ _ _ _ (l .inv) _ _ (omega arith) (c .before .next-grain2 .ensures)
-    (c .ends-table .ensures .0) (c .ends-table .ensures .1))
+    let l = c .before .before .before .before .before .before in
+    counting-on _ _ (l .before .before .before .before .pre .0) _ _ _ _ (l .loop .inv) _ _ (omega arith)
+    (c .before .next-grain2 .ensures) (c .ends-table .ensures .0) (c .ends-table .ensures .1))
     (λ c. search counting-ends))

@@ -1,7 +1,5 @@
-use mathlib.Core.Path.{refl}
 use native.Mathlib.Omega.{arith}
 use Rattle.base.proofs.Steps.{steps}
-use borrow.Author.Needs.{needs}
 use Rattle.walk.proofs.ends_table.Statement.{statement}
 use Rattle.walk.proofs.ends_table.Tie as tie
 

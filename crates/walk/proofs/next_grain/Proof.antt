@@ -26,17 +26,19 @@ next-grain-spec =
     (λ c. search stop-next)
     (λ enum-known-block. search needs)
     (λ c.
-    let b = c .before .before .before .block-at in
-    omega (arith, other-there _ _ (c .before .before .before .before .before .before .pre .0) _ _ _ (b .ensures) _ (c .before .block .given .1)))
+    let b = c .before .before .before in
+    let w = b .before .before .before .pre .0 in
+    omega (arith, other-there _ _ w _ _ _ (b .block-at .ensures) _ (c .before .block .given .1)))
     (λ c.
-    let b = c .before .before .before .block-at in
-    omega (arith, other-there _ _ (c .before .before .before .before .before .before .pre .0) _ _ _ (b .ensures) _ (c .before .block .given .1)))
+    let b = c .before .before .before in
+    let w = b .before .before .before .pre .0 in
+    omega (arith, other-there _ _ w _ _ _ (b .block-at .ensures) _ (c .before .block .given .1)))
     (λ c.
-    let b = c .before .before .before .block-at in
-    sym (other-step _ _ (c .before .before .before .before .before .before .pre .0) _ _ _ (b .ensures) _ (c .before .block .given .1))
-    ∙ c .before .before .before .before .loop .inv)
+    let b = c .before .before .before in
+    sym (other-step _ _ (b .before .before .before .pre .0) _ _ _ (b .block-at .ensures) _ (c .before .block .given .1))
+    ∙ b .before .loop .inv)
     (λ enum-known-block-2. search needs)
     (λ c.
-    let b = c .before .before .before .block-at in
-    grain-next _ _ (c .before .before .before .before .before .before .pre .0) _ _ _ (b .ensures) _
-    (c .before .before .before .before .loop .inv) _ _ (c .before .block2 .given .1)))
+    let b = c .before .before .before in
+    grain-next _ _ (b .before .before .before .pre .0) _ _ _ (b .block-at .ensures) _ (b .before .loop .inv) _ _
+    (c .before .block2 .given .1)))
