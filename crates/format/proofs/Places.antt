@@ -25,7 +25,7 @@ BothOrNone h = (h .descriptor ≡ 0 → h .«descriptor_sectors» ≡ 0) × (h .
 
 module _ (f : ℕ) (h : Header) where
   -- ---- the descriptor
-  descriptor-kept : descriptorMisplaced f h ≡ false → (BothOrNone h) × (runsPast f (descriptorArea h) ≡ false)
+  pub descriptor-kept : descriptorMisplaced f h ≡ false → (BothOrNone h) × (runsPast f (descriptorArea h) ≡ false)
   descriptor-kept e =
       let a = or-no (eqb (h .descriptor) 0 && not (eqb (h .«descriptor_sectors») 0)) _ e in
       let b = or-no (not (eqb (h .descriptor) 0) && eqb (h .«descriptor_sectors») 0)

@@ -53,14 +53,15 @@ pub record SameHead (s t : List ℕ) : Type 0 where
   pub fields : SameFields s t
   pub last : sameAt s 0 kdmvMagic ≡ true → atEnd (kdmvFields s) ≡ true → SameBytes s t (lastAt s) 512
 
-module _ (s t : List ℕ) (both : SameFields s t) where
+-- ---- what stands in the first sector
+module _ (s t : List ℕ) (head : SameBytes s t 0 512) where
   number : (at n : ℕ) → at + n ≤ 512 → leAt s at n ≡ leAt t at n
-  number at n l = number-same s t at n (within s t 0 512 at n (both .head) (omega arith) l)
+  number at n l = number-same s t at n (within s t 0 512 at n head (omega arith) l)
 
-  string : (at : ℕ) (w : List ℕ) → at + length w ≤ 512 → sameAt s at w ≡ sameAt t at w
-  string at w l = string-same s t at w (within s t 0 512 at (length w) (both .head) (omega arith) l)
+  pub string : (at : ℕ) (w : List ℕ) → at + length w ≤ 512 → sameAt s at w ≡ sameAt t at w
+  string at w l = string-same s t at w (within s t 0 512 at (length w) head (omega arith) l)
 
-  kdmv-same : kdmvFields s ≡ kdmvFields t
+  pub kdmv-same : kdmvFields s ≡ kdmvFields t
   unfolding kdmvFields
   kdmv-same =
       rw (
@@ -78,16 +79,17 @@ module _ (s t : List ℕ) (both : SameFields s t) where
         number 77 2 (omega arith),
       )
 
+module _ (s t : List ℕ) (both : SameFields s t) where
   -- the last field stands in the fourth sector, and counts only where there is one
   cowd-same : 2048 ≤ length s → sameAt s 0 kdmvMagic ≡ false → cowdFields s ≡ cowdFields t
   unfolding cowdFields
   cowd-same l n =
       rw (
-        number 4 4 (omega arith),
-        number 12 4 (omega arith),
-        number 16 4 (omega arith),
-        number 20 4 (omega arith),
-        number 24 4 (omega arith),
+        number s t (both .head) 4 4 (omega arith),
+        number s t (both .head) 12 4 (omega arith),
+        number s t (both .head) 16 4 (omega arith),
+        number s t (both .head) 20 4 (omega arith),
+        number s t (both .head) 24 4 (omega arith),
         number-same s t 1648 4 (within s t 0 2048 1648 4 (both .more l n) (omega arith) (omega arith)),
       )
 
@@ -107,7 +109,7 @@ module _ (s t : List ℕ) (both : SameFields s t) where
   pub kdmv-header-same : sameAt s 0 kdmvMagic ≡ true → headerOf s ≡ headerOf t
   unfolding headerOf
   kdmv-header-same kdmv =
-      rw (← string 0 kdmvMagic (omega arith), ← kdmv-same, ← directory-same kdmv)
+      rw (← string s t (both .head) 0 kdmvMagic (omega arith), ← kdmv-same s t (both .head), ← directory-same kdmv)
       (pick-both _≡_ (sameAt s 0 kdmvMagic) _ _ _ _ (λ m. refl) (λ n. absurd (true≢false (sym kdmv ∙ n))))
 
   pub head-sizes : (headerOf s .capacity ≡ headerOf t .capacity) × (headerOf s .«grain_size» ≡ headerOf t .«grain_size»)
@@ -145,7 +147,7 @@ module _ (s t : List ℕ) (all : SameHead s t) where
 
     judge-kdmv-same : judgeKdmv s ≡ judgeKdmv t
     unfolding judgeKdmv
-    judge-kdmv-same = rw (← both .long, ← kdmv-same s t both, directory-same s t both kdmv, with-footer-same)
+    judge-kdmv-same = rw (← both .long, ← kdmv-same s t (both .head), directory-same s t both kdmv, with-footer-same)
 
   judge-cowd-same : sameAt s 0 kdmvMagic ≡ false → judgeCowd s ≡ judgeCowd t
   unfolding judgeCowd
@@ -156,7 +158,11 @@ module _ (s t : List ℕ) (all : SameHead s t) where
   pub judge-same : judge s ≡ judge t
   unfolding judge
   judge-same =
-      rw (← both .long, ← string s t both 0 kdmvMagic (omega arith), ← string s t both 0 cowdMagic (omega arith))
+      rw (
+        ← both .long,
+        ← string s t (both .head) 0 kdmvMagic (omega arith),
+        ← string s t (both .head) 0 cowdMagic (omega arith),
+      )
       (pick-both _≡_ _ _ _ _ _ (λ q. refl)
       (λ n.
       pick-both _≡_ (sameAt s 0 kdmvMagic) _ _ _ _ judge-kdmv-same

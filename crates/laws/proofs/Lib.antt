@@ -95,3 +95,6 @@ pub mod NotConstantMoves
 pub mod ExamplesProfile
 pub mod NotConstantProfile
 pub mod NeverUsedProfile
+pub mod ClosedStart
+pub mod ClosedTail
+pub mod ClosedHeader

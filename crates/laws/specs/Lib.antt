@@ -14,3 +14,4 @@ pub mod Examples
 pub mod ExampleLayers
 pub mod MovedImages
 pub mod ProfileImages
+pub mod Closed
