@@ -8,13 +8,14 @@ use native.Mathlib.Omega.{arith}
 use native.Mathlib.Nat.{mul-le-mul-left}
 use lib.ListN.{length, getD, take, drop, length-append}
 use lib.Seq.{getD-take, getD-drop}
+use borrow.Author.Tests.{eqb-true}
 use Rattle.base.specs.Pick.{pick}
 use Rattle.base.specs.Numbers.{leAt, leBytes}
 use Rattle.base.specs.Bytes.{SameBytes, zeros}
 use Rattle.base.specs.Rounding.{ceil}
 use Rattle.base.specs.Rows.{rows, firstOf}
 use Rattle.base.proofs.Stands.{Stands, stands-in, stands-at, read-bytes}
-use Rattle.base.proofs.SameBytes.{within, part-same}
+use Rattle.base.proofs.SameBytes.{within}
 use Rattle.base.proofs.Over.{zeros-length}
 use Rattle.base.proofs.Rows.{part-at}
 use Rattle.base.proofs.Numbers.{le-length, read-number}
@@ -25,7 +26,7 @@ use Rattle.format.specs.Kdmv.{kdmvFields, kdmvMagic, allOnes, footerAt, lastAt,
 use Rattle.format.specs.Header.{kdmvHeader, directoryOf, kdmvHeaderOf, headerOf, startOf, directoryEntriesOf}
 use Rattle.format.specs.Accepted.{FooterRules, KdmvRules}
 use Rattle.format.specs.Stream.{KeptGrain, keptGrains, keptSectors}
-use Rattle.format.specs.Tail.{hasGrains, oneIfTable, newTables, footerBytes}
+use Rattle.format.specs.Tail.{hasGrains, oneIfTable, tablesBelow, footerBytes}
 use Rattle.format.specs.Close.{tailOf, closedImage}
 use Rattle.format.specs.declared.Header.{Header}
 use Rattle.format.proofs.BytesAt.{part-long}
@@ -101,11 +102,11 @@ entries-few c size small low high =
     let b : 4096 ≤ 512 * size = omega arith in
     omega (arith, ceil-under c (512 * size) a, mul-le-mul-left (ceil c (512 * size)) b)
 
-pub tables-few : (h : Header) → StartSizes h → (l : List KeptGrain) → newTables h l ≤ 0x100000
-tables-few h z l =
-    let n : directoryEntriesOf h ≤ 0x100000 =
-    rw (z .table) (entries-few (h .capacity) (h .«grain_size») (z .small) (z .low) (z .high)) in
-    omega (arith, sum-most (directoryEntriesOf h) (oneIfTable l) (λ d b. one-most (hasGrains l d)))
+pub entries-small : (h : Header) → StartSizes h → directoryEntriesOf h ≤ 0x100000
+entries-small h z = rw (z .table) (entries-few (h .capacity) (h .«grain_size») (z .small) (z .low) (z .high))
+
+pub tables-most : (l : List KeptGrain) (d : ℕ) → tablesBelow l d ≤ d
+tables-most l d = sum-most d (oneIfTable l) (λ k b. one-most (hasGrains l k))
 
 -- ---- a closed image
 module _ (s : List ℕ) (z : Closing s) where
@@ -129,7 +130,15 @@ module _ (s : List ℕ) (z : Closing s) where
   fields-same = kdmv-same (closedImage s) s head-same
 
   directory-small : closedDirectory s < 0xffffffff
-  directory-small = omega (arith, tables-few (startOf s) (z .sizes) (keptGrains s (startOf s)), kept-here s z, z .few)
+  directory-small =
+      let n = directoryEntriesOf (startOf s) in
+      omega (
+        arith,
+        tables-most (keptGrains s (startOf s)) n,
+        entries-small (startOf s) (z .sizes),
+        kept-here s z,
+        z .few,
+      )
 
   footer-at : footerAt (closedImage s) ≡ 512 * (closedDirectory s + startOf s .«directory_sectors» + 1)
   footer-at = omega (arith, closed-sectors)
@@ -178,6 +187,13 @@ module _ (s : List ℕ) (z : Closing s) where
 
   pub header-closed : headerOf (closedImage s) ≡ closedHeader s
   header-closed = kdmv-is (closedImage s) closed-rules ∙ kdmv-closed
+
+  -- its grains are packed: a directory at the end needs markers, and markers need compression
+  pub packed-closed : closedHeader s .packed ≡ true
+  unfolding kdmvHeader
+  packed-closed =
+      let q : kdmvFields (closedImage s) .directory ≡ allOnes = rw fields-same (eqb-true _ _ (z .atEnd)) in
+      rw fields-same at (closed-rules .markers (closed-rules .atEnd q .0))
 
   -- closing it again begins with the same header
   pub start-closed : startOf (closedImage s) ≡ startOf s

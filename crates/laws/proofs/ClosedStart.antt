@@ -1,11 +1,11 @@
 -- A start that closing takes (request A12): what is known of it, and that the kept part is a start of what was lent.
-use Prim.Native.Nat.{ℕ, _+_, _*_, _≤_, _<_}
-use mathlib.Core.Path.{_≡_, refl, sym, _∙_}
-use mathlib.Core.List.{List, _++_}
+use Prim.Native.Nat.{ℕ, _*_, _≤_}
+use mathlib.Core.Path.{_≡_, _∙_}
+use mathlib.Core.List.{List}
 use mathlib.Core.Bool.{true, false, not}
 use native.Mathlib.Omega.{arith}
 use lib.Dec.{ltb, eqb}
-use lib.ListN.{length, getD, take, List·getD-append}
+use lib.ListN.{length, take, List·getD-append}
 use lib.Seq.{getD-take, length-take-le, take-at}
 use borrow.Author.Tests.{ltb-false, eqb-true, not-false}
 use Rattle.base.specs.Bytes.{SameBytes}

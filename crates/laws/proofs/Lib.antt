@@ -98,3 +98,7 @@ pub mod NeverUsedProfile
 pub mod ClosedStart
 pub mod ClosedTail
 pub mod ClosedHeader
+pub mod ClosedEntries
+pub mod ClosedBetween
+pub mod ClosedGrains
+pub mod ClosedAccepted
