@@ -44,7 +44,7 @@ use Rattle.laws.proofs.ClosedTail.{one-more, tail-length, footer-stands
 read-part : {s : List ℕ} {at : ℕ} {w : List ℕ} (n : ℕ) → length w ≡ n → Stands s at w → bytesAt s at n ≡ w
 read-part n e t = rw (← e) (read-bytes t)
 
-part-alike : (s t : List ℕ) (at n : ℕ) → at + n ≤ length s → at + n ≤ length t → SameBytes s t at n
+pub part-alike : (s t : List ℕ) (at n : ℕ) → at + n ≤ length s → at + n ≤ length t → SameBytes s t at n
     → bytesAt s at n ≡ bytesAt t at n
 part-alike s t at n a b same =
     let long = part-long t at n b in

@@ -102,3 +102,5 @@ pub mod ClosedEntries
 pub mod ClosedBetween
 pub mod ClosedGrains
 pub mod ClosedAccepted
+pub mod ClosedServed
+pub mod ClosedAnswer

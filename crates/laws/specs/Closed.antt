@@ -1,13 +1,14 @@
 -- Closing a download that broke off (request A12): the starts that it takes, and the grains that it keeps.
-use Prim.Native.Nat.{ℕ, _+_}
+use Prim.Native.Nat.{ℕ, _+_, _≤_}
 use mathlib.Core.Path.{_≡_}
 use mathlib.Core.List.{List, _∷_}
 use mathlib.Core.Bool.{false}
+use lib.ListN.{length}
 use Rattle.format.specs.Kdmv.{kdmvFields}
 use Rattle.format.specs.Header.{kdmvHeader, startOf, judgeStart}
 use Rattle.format.specs.Stream.{KeptGrain, keptGrains, keptSectors}
 use Rattle.format.specs.Tail.{newDirectory, tailSectors}
-use Rattle.format.specs.Close.{notClosable}
+use Rattle.format.specs.Close.{notClosable, tailOf}
 use Rattle.format.specs.declared.Header.{Header}
 use Rattle.format.specs.declared.HeaderAnswer.the-variants.{Known}
 
@@ -15,6 +16,14 @@ use Rattle.format.specs.declared.HeaderAnswer.the-variants.{Known}
 pub record Closable (s : List ℕ) : Type 0 where
   pub known : judgeStart s ≡ Known (startOf s)
   pub closable : notClosable s (startOf s) ≡ false
+
+-- what the numbers of an answer are, where the output has `room` bytes
+pub record ClosedAs (s : List ℕ) (room sectors grains long : ℕ) : Type 0 where
+  pub closable : Closable s
+  pub kept : sectors ≡ keptSectors s (startOf s)
+  pub count : grains ≡ length (keptGrains s (startOf s))
+  pub tail : long ≡ length (tailOf s (startOf s))
+  pub fits : long ≤ room
 
 -- a grain is one of those of a list
 pub data Among (k : KeptGrain) : List KeptGrain → Type 0 where
