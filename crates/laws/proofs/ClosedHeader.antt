@@ -123,7 +123,7 @@ module _ (s : List ℕ) (z : Closing s) where
   pub closed-sectors : fileSectors (closedImage s) ≡ closedSectors s
   closed-sectors = omega (arith, closed-length)
 
-  head-same : SameBytes (closedImage s) s 0 512
+  pub head-same : SameBytes (closedImage s) s 0 512
   head-same = within (closedImage s) s 0 _ 0 512 (kept-same s z) (omega arith) (omega (arith, kept-late s z, z .late))
 
   pub fields-same : kdmvFields (closedImage s) ≡ kdmvFields s

@@ -104,3 +104,6 @@ pub mod ClosedGrains
 pub mod ClosedAccepted
 pub mod ClosedServed
 pub mod ClosedAnswer
+pub mod ClosedBlocks
+pub mod ClosedAgain
+pub mod ClosedTwice
