@@ -107,3 +107,5 @@ pub mod ClosedAnswer
 pub mod ClosedBlocks
 pub mod ClosedAgain
 pub mod ClosedTwice
+pub mod ExamplesClose
+pub mod NotConstantClose

@@ -137,6 +137,13 @@ packed first size next nextSize =
     ∷ []))
     1
 
+-- a download that broke off after header and descriptor: the descriptor at sector 1, overhead 2
+abbrev pub startSector : ℕ → List ℕ
+startSector directory = with 64 8 2 (with 28 8 1 (streamSector directory))
+
+abbrev pub start : List ℕ
+start = joined (startSector 0xffffffffffffffff ∷ zeros 512 ∷ [])
+
 -- ---- headers that images of KDMV tell, where entry 1 means zeros; all but `openHeader` of clean disks
 abbrev headed : ℕ → ℕ → Bool → ℕ → ℕ → ℕ → ℕ → ℕ → Header
 headed capacity grainSize stream descriptor descriptorSectors directory redundant dirty =
@@ -174,3 +181,8 @@ plainHeader descriptor descriptorSectors directory redundant =
 -- of a stream whose directory stands at a sector
 abbrev pub streamHeader : ℕ → Header
 streamHeader directory = headed 16 8 true 9 1 directory 0 0
+
+-- of a start with a descriptor and a redundant directory at these sectors, which has no footer yet
+abbrev pub startHeader : ℕ → ℕ → ℕ → Header
+startHeader descriptor descriptorSectors redundant =
+    headed 16 8 true descriptor descriptorSectors 0xffffffffffffffff redundant 0
