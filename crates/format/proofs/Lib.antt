@@ -38,3 +38,4 @@ pub mod Mendable
 pub mod StreamKept
 pub mod StreamEntries
 pub mod HeaderStart
+pub mod TailLengths

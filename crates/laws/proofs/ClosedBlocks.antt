@@ -27,8 +27,8 @@ use Rattle.format.specs.declared.closing.Block.{Block}
 use Rattle.format.specs.declared.closing.Block.the-variants.{Stop, Other, Grain}
 use Rattle.format.proofs.Entries.{sectors-same}
 use Rattle.format.proofs.Picked.{pick-then, pick-else}
+use Rattle.format.proofs.TailLengths.{one-more}
 use Rattle.laws.proofs.ClosedStart.{Closing, kept-same}
-use Rattle.laws.proofs.ClosedTail.{one-more}
 use Rattle.laws.proofs.ClosedHeader.{closed-sectors}
 use Rattle.laws.proofs.ClosedGrains.{size-same, first-same}
 

@@ -26,11 +26,12 @@ use Rattle.format.proofs.Picked.{pick-then, pick-else}
 use Rattle.format.proofs.StreamKept.{Ascends}
 use Rattle.format.proofs.StreamKept.Ascends.{none, some}
 use Rattle.format.proofs.StreamEntries.{entry-other}
+use Rattle.format.proofs.TailLengths.{tables-most}
 use Rattle.laws.specs.Closed.{closedDirectory, closedHeader}
 use Rattle.laws.proofs.LayoutBack.{sector-told}
 use Rattle.laws.proofs.ClosedStart.{Closing, kept-ascends, kept-late, kept-here, tail-stands}
 use Rattle.laws.proofs.ClosedTail.{directory-stands, table-stands}
-use Rattle.laws.proofs.ClosedHeader.{entries-small, tables-most}
+use Rattle.laws.proofs.ClosedHeader.{entries-small}
 
 -- ---- entries of kept grains
 -- a directory entry without grains has none

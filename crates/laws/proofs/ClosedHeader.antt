@@ -3,13 +3,12 @@
 use Prim.Native.Nat.{ℕ, _+_, _*_, _≤_, _<_}
 use mathlib.Core.Path.{_≡_, refl, sym, _∙_}
 use mathlib.Core.List.{List, [], _∷_}
-use mathlib.Core.Bool.{Bool, true, false}
+use mathlib.Core.Bool.{true}
 use native.Mathlib.Omega.{arith}
 use native.Mathlib.Nat.{mul-le-mul-left}
 use lib.ListN.{length, getD, take, drop, length-append}
 use lib.Seq.{getD-take, getD-drop}
 use borrow.Author.Tests.{eqb-true}
-use Rattle.base.specs.Pick.{pick}
 use Rattle.base.specs.Numbers.{leAt, leBytes}
 use Rattle.base.specs.Bytes.{SameBytes, zeros}
 use Rattle.base.specs.Rounding.{ceil}
@@ -20,13 +19,12 @@ use Rattle.base.proofs.Over.{zeros-length}
 use Rattle.base.proofs.Rows.{part-at}
 use Rattle.base.proofs.Numbers.{le-length, read-number}
 use Rattle.base.proofs.Rounding.{ceil-under}
-use Rattle.base.proofs.SumsBelow.{sum-most}
 use Rattle.format.specs.Geometry.{fileSectors, bytesAt, directoryEntries}
 use Rattle.format.specs.Kdmv.{kdmvFields, kdmvMagic, allOnes, footerAt, lastAt, footerDirectory}
 use Rattle.format.specs.Header.{kdmvHeader, directoryOf, kdmvHeaderOf, headerOf, startOf, directoryEntriesOf}
 use Rattle.format.specs.Accepted.{FooterRules, KdmvRules}
-use Rattle.format.specs.Stream.{KeptGrain, keptGrains, keptSectors}
-use Rattle.format.specs.Tail.{hasGrains, oneIfTable, tablesBelow, footerBytes}
+use Rattle.format.specs.Stream.{keptGrains, keptSectors}
+use Rattle.format.specs.Tail.{footerBytes}
 use Rattle.format.specs.Close.{tailOf, closedImage}
 use Rattle.format.specs.declared.Header.{Header}
 use Rattle.format.proofs.BytesAt.{part-long}
@@ -35,10 +33,11 @@ use Rattle.format.proofs.HeaderJudged.{kdmv-is}
 use Rattle.format.proofs.HeaderKdmv.{kdmv-kept}
 use Rattle.format.proofs.HeaderStart.{StartSizes}
 use Rattle.format.proofs.Picked.{pick-then}
+use Rattle.format.proofs.TailLengths.{one-more, tables-most, tail-length}
 use Rattle.format.proofs.SameHeader.{string, kdmv-same}
 use Rattle.laws.specs.Closed.{closedSectors, closedDirectory, closedHeader}
 use Rattle.laws.proofs.ClosedStart.{Closing, kept-late, kept-here, kept-long, kept-same, tail-stands}
-use Rattle.laws.proofs.ClosedTail.{one-more, tail-length, footer-stands, last-stands}
+use Rattle.laws.proofs.ClosedTail.{footer-stands, last-stands}
 
 -- a part of n bytes that stands, and one in which two images agree
 read-part : {s : List ℕ} {at : ℕ} {w : List ℕ} (n : ℕ) → length w ≡ n → Stands s at w → bytesAt s at n ≡ w
@@ -90,11 +89,6 @@ module _ (s : List ℕ) (long : 512 ≤ length s) {c : List ℕ} {at : ℕ} (dir
 
 -- ---- numbers
 -- there are few tables, so that all sectors are small
-one-most : (b : Bool) → pick b 1 0 ≤ 1
-unfolding pick
-one-most true = omega arith
-one-most false = omega arith
-
 entries-few : (c size : ℕ) → c ≤ 0x80000000 → 8 ≤ size → size ≤ 2048 → directoryEntries c 512 size ≤ 0x100000
 unfolding directoryEntries
 entries-few c size small low high =
@@ -104,9 +98,6 @@ entries-few c size small low high =
 
 pub entries-small : (h : Header) → StartSizes h → directoryEntriesOf h ≤ 0x100000
 entries-small h z = rw (z .table) (entries-few (h .capacity) (h .«grain_size») (z .small) (z .low) (z .high))
-
-pub tables-most : (l : List KeptGrain) (d : ℕ) → tablesBelow l d ≤ d
-tables-most l d = sum-most d (oneIfTable l) (λ k b. one-most (hasGrains l k))
 
 -- ---- a closed image
 module _ (s : List ℕ) (z : Closing s) where

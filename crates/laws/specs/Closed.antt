@@ -18,11 +18,11 @@ pub record Closable (s : List ℕ) : Type 0 where
   pub closable : notClosable s (startOf s) ≡ false
 
 -- what the numbers of an answer are, where the output has `room` bytes
-pub record ClosedAs (s : List ℕ) (room sectors grains long : ℕ) : Type 0 where
+pub record AnsweredAs (s : List ℕ) (room sectors grains long : ℕ) : Type 0 where
   pub closable : Closable s
   pub kept : sectors ≡ keptSectors s (startOf s)
-  pub count : grains ≡ length (keptGrains s (startOf s))
-  pub tail : long ≡ length (tailOf s (startOf s))
+  pub grainCount : grains ≡ length (keptGrains s (startOf s))
+  pub tailLong : long ≡ length (tailOf s (startOf s))
   pub fits : long ≤ room
 
 -- a grain is one of those of a list
