@@ -149,7 +149,7 @@ module _ (s t : List ℕ) (all : SameHead s t) where
     unfolding judgeKdmv
     judge-kdmv-same = rw (← both .long, ← kdmv-same s t (both .head), directory-same s t both kdmv, with-footer-same)
 
-  judge-cowd-same : sameAt s 0 kdmvMagic ≡ false → judgeCowd s ≡ judgeCowd t
+  pub judge-cowd-same : sameAt s 0 kdmvMagic ≡ false → judgeCowd s ≡ judgeCowd t
   unfolding judgeCowd
   judge-cowd-same n =
       rw (← both .long)

@@ -37,7 +37,8 @@ module _ {c : List ℕ} {at : ℕ} (l : List KeptGrain) (d : ℕ) (there : hasGr
 -- ---- where each stands
 module _ (s : List ℕ) (h : Header) (end : ℕ) (l : List KeptGrain) (long : 512 ≤ length s) where
   module _ {c : List ℕ} (t : Stands c (512 * end) (tailBytes s h end l)) where
-    part-stands : (i n : ℕ) → i < 6 → before s h end l long i ≡ 512 * n → Stands c (512 * (end + n)) (getD (tailParts s h end l) i [])
+    part-stands : (i n : ℕ) → i < 6 → before s h end l long i ≡ 512 * n
+        → Stands c (512 * (end + n)) (getD (tailParts s h end l) i [])
     unfolding tailBytes
     part-stands i n b e =
         stands-at _ (omega (arith, e)) (stands-in t (part-at (tailParts s h end l) i b))

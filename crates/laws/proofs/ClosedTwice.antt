@@ -64,7 +64,7 @@ module _ (s t : List ℕ) (front : bytesAt s 0 56 ≡ bytesAt t 0 56) (back : by
       ap (λ (v : List ℕ). allOf (v ∷ leBytes 8 directory ∷ bytesAt s 64 448 ∷ [])) front
       ∙ ap (λ (v : List ℕ). allOf (bytesAt t 0 56 ∷ leBytes 8 directory ∷ v ∷ [])) back
 
-  tail-alike : (h : Header) (end : ℕ) (l : List KeptGrain) → tailBytes s h end l ≡ tailBytes t h end l
+  pub tail-alike : (h : Header) (end : ℕ) (l : List KeptGrain) → tailBytes s h end l ≡ tailBytes t h end l
   unfolding tailBytes
   tail-alike h end l =
       ap

@@ -109,3 +109,5 @@ pub mod ClosedAgain
 pub mod ClosedTwice
 pub mod ExamplesClose
 pub mod NotConstantClose
+pub mod NeverUsedClose
+pub mod ClosedCount

@@ -33,11 +33,11 @@ use Rattle.laws.proofs.UsedCheckIn.{used-check-in, used-lent}
 use Rattle.laws.proofs.UsedChain.{used-chain}
 
 module _ (s t : List ℕ) (both : SameSectors s t) where
-  below : (at n : ℕ) → at + n ≤ 512 * fileSectors s → SameBytes s t at n
+  pub below : (at n : ℕ) → at + n ≤ 512 * fileSectors s → SameBytes s t at n
   below at n h i j k = both .same i (omega arith)
 
   -- ---- 1 to 7
-  same-head : SameHead s t
+  pub same-head : SameHead s t
   same-head = record {
     fields = record {
       long = both .long;
