@@ -13,7 +13,8 @@ use Rattle.format.specs.declared.Refusal.{Refusal}
 use Rattle.format.specs.declared.Refusal.the-variants.{TooShort, Magic, Version, Newline, Flags, Sizes, Footer, Misplaced}
 use Rattle.format.specs.declared.Refusal.the-variants.{GrainPast, Marker, CopiesDiffer, SharedSector, SectorPast}
 use Rattle.format.specs.declared.Refusal.the-variants.{TooLittleRoom, LayersDiffer, NotCollapsible, LayerLengths}
-use Rattle.format.specs.declared.Refusal.the-variants.{StillOpen, NotMendable, NotClosable, NotNormal, NotMovable, ProfileSizes}
+use Rattle.format.specs.declared.Refusal.the-variants.{StillOpen, NotMendable, NotClosable, NotNormal, NotMovable}
+use Rattle.format.specs.declared.Refusal.the-variants.{ProfileSizes}
 use Rattle.format.specs.declared.Source.{Source}
 use Rattle.format.specs.declared.Source.the-variants.{Absent, Zero, Stored, Packed}
 use Rattle.format.specs.declared.CheckAnswer.{CheckAnswer}
