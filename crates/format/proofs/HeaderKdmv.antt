@@ -22,7 +22,7 @@ use Rattle.format.proofs.Picked.{pick-else, none-found, and-no, no-and}
 use Rattle.format.proofs.HeaderSizes.{capacity-kept, kept-capacity, grain-size-kept, kept-grain-size}
 use Rattle.format.proofs.HeaderFooter.{footer-kept, kept-footer}
 
-no-or : (a b : Bool) → a ≡ false → b ≡ false → (a || b) ≡ false
+pub no-or : (a b : Bool) → a ≡ false → b ≡ false → (a || b) ≡ false
 no-or a b e f = rw (e, f)
 
 -- ---- the parts of 5, each true where it is broken

@@ -216,6 +216,10 @@ module _ (s : List ℕ) (z : Closing s) where
   pub image-accepted : Accepted (closedImage s)
   image-accepted = kdmv (closed-rules s z) (rw (kdmv-closed s z) area-rules)
 
+-- every layout rule holds
+pub closed-meets : (s : List ℕ) → Closable s → Accepted (closedImage s)
+closed-meets s c = image-accepted s (closing s c)
+
 -- kept part and tail together are accepted, with the start's capacity and grain size
 pub closed-accepted : (s : List ℕ) → Closable s
     → check (closedImage s) ≡ accepted (startOf s .capacity) (startOf s .«grain_size»)

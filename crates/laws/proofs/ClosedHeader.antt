@@ -6,14 +6,13 @@ use mathlib.Core.List.{List, [], _∷_}
 use mathlib.Core.Bool.{true}
 use native.Mathlib.Omega.{arith}
 use native.Mathlib.Nat.{mul-le-mul-left}
-use lib.ListN.{length, getD, take, drop, length-append}
-use lib.Seq.{getD-take, getD-drop}
+use lib.ListN.{length, getD, take, length-append}
 use borrow.Author.Tests.{eqb-true}
 use Rattle.base.specs.Numbers.{leAt, leBytes}
 use Rattle.base.specs.Bytes.{SameBytes, zeros}
 use Rattle.base.specs.Rounding.{ceil}
 use Rattle.base.specs.Rows.{rows, firstOf}
-use Rattle.base.proofs.Stands.{Stands, stands-in, stands-at, read-bytes}
+use Rattle.base.proofs.Stands.{Stands, stands-in, stands-at}
 use Rattle.base.proofs.SameBytes.{within}
 use Rattle.base.proofs.Over.{zeros-length}
 use Rattle.base.proofs.Rows.{part-at}
@@ -27,7 +26,7 @@ use Rattle.format.specs.Stream.{keptGrains, keptSectors}
 use Rattle.format.specs.Tail.{footerBytes}
 use Rattle.format.specs.Close.{tailOf, closedImage}
 use Rattle.format.specs.declared.Header.{Header}
-use Rattle.format.proofs.BytesAt.{part-long}
+use Rattle.format.proofs.BytesAt.{part-long, read-part, part-alike}
 use Rattle.format.proofs.HeaderFooter.{kept-footer}
 use Rattle.format.proofs.HeaderJudged.{kdmv-is}
 use Rattle.format.proofs.HeaderKdmv.{kdmv-kept}
@@ -38,23 +37,6 @@ use Rattle.format.proofs.SameHeader.{string, kdmv-same}
 use Rattle.laws.specs.Closed.{closedSectors, closedDirectory, closedHeader}
 use Rattle.laws.proofs.ClosedStart.{Closing, kept-late, kept-here, kept-long, kept-same, tail-stands}
 use Rattle.laws.proofs.ClosedTail.{footer-stands, last-stands}
-
--- a part of n bytes that stands, and one in which two images agree
-read-part : {s : List ℕ} {at : ℕ} {w : List ℕ} (n : ℕ) → length w ≡ n → Stands s at w → bytesAt s at n ≡ w
-read-part n e t = rw (← e) (read-bytes t)
-
-pub part-alike : (s t : List ℕ) (at n : ℕ) → at + n ≤ length s → at + n ≤ length t → SameBytes s t at n
-    → bytesAt s at n ≡ bytesAt t at n
-part-alike s t at n a b same =
-    let long = part-long t at n b in
-    let stands : Stands s at (bytesAt t at n) =
-    record {
-      inside = omega arith;
-      same = λ i l.
-          same (at + i) (omega arith) (omega arith)
-          ∙ sym (getD-take n (drop at t) i 0 (omega arith) ∙ getD-drop at t i 0);
-    } in
-    read-part n long stands
 
 -- ---- a footer's three parts, where it stands
 abbrev footerParts : List ℕ → ℕ → List (List ℕ)

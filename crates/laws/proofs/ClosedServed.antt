@@ -18,10 +18,11 @@ use Rattle.format.specs.declared.Entry.the-variants.{Absent as noEntry, Sector}
 use Rattle.format.specs.declared.Source.the-variants.{Absent, Packed}
 use Rattle.format.specs.declared.LookupAnswer.the-variants.{Found}
 use Rattle.format.proofs.Geometry.{grain-of}
+use Rattle.format.proofs.BytesAt.{part-alike}
 use Rattle.laws.specs.Closed.{Closable, Among, closedHeader}
 use Rattle.laws.proofs.ServedSectors.{served}
 use Rattle.laws.proofs.ClosedStart.{Closing, closing, kept-here, kept-same}
-use Rattle.laws.proofs.ClosedHeader.{header-closed, packed-closed, part-alike, closed-length}
+use Rattle.laws.proofs.ClosedHeader.{header-closed, packed-closed, closed-length}
 use Rattle.laws.proofs.ClosedGrains.{entry-cases, size-same, kept-lies, kept-entry, other-entry}
 use Rattle.laws.proofs.ClosedAccepted.{image-accepted}
 

@@ -3,7 +3,7 @@
 use Prim.Native.Nat.{ℕ, _*_, _≤_}
 use mathlib.Core.Path.{_≡_, refl, sym, ap, _∙_}
 use mathlib.Core.List.{List, [], _∷_, _++_}
-use mathlib.Core.Bool.{Bool, true, false, _||_}
+use mathlib.Core.Bool.{true}
 use native.Mathlib.Omega.{arith}
 use lib.Dec.{ltb}
 use lib.ListN.{length, take}
@@ -29,11 +29,13 @@ use Rattle.format.specs.declared.Refusal.the-variants.{TooLittleRoom}
 use Rattle.format.specs.declared.HeaderAnswer.the-variants.{Known}
 use Rattle.format.specs.declared.closing.CloseAnswer.{CloseAnswer}
 use Rattle.format.specs.declared.closing.CloseAnswer.the-variants.{Closed, Refused}
+use Rattle.format.proofs.HeaderKdmv.{no-or}
 use Rattle.format.proofs.Picked.{pick-then, pick-else}
 use Rattle.format.proofs.SameHeader.{string}
+use Rattle.format.proofs.BytesAt.{part-alike}
 use Rattle.laws.specs.Closed.{Closable}
 use Rattle.laws.proofs.ClosedStart.{Closing, closing, kept-late, kept-start}
-use Rattle.laws.proofs.ClosedHeader.{part-alike, closed-length, closed-sectors, head-same, fields-same, start-closed}
+use Rattle.laws.proofs.ClosedHeader.{closed-length, closed-sectors, head-same, fields-same, start-closed}
 use Rattle.laws.proofs.ClosedAgain.{walk-same}
 
 -- ---- a start whose magic and fields are right is not refused 1 to 6
@@ -77,9 +79,6 @@ module _ (s t : List ℕ) (front : bytesAt s 0 56 ≡ bytesAt t 0 56) (back : by
       ∷ zeros 512
       ∷ []))
       (footer-alike (newDirectory h end l))
-
-no-or : (a b : Bool) → a ≡ false → b ≡ false → (a || b) ≡ false
-no-or a b e f = rw (e, f)
 
 module _ (s : List ℕ) (c : Closable s) where
   z : Closing s

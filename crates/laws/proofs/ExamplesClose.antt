@@ -3,6 +3,7 @@
 use Prim.Native.Nat.{ℕ}
 use mathlib.Core.Path.{_≡_, refl}
 use mathlib.Core.List.{List, [], _∷_, _++_}
+use lib.Dec.{lit<}
 use lib.ListN.{replicate}
 use Rattle.base.specs.Pick.{pick}
 use Rattle.base.specs.Rounding.{powerUpTo}
@@ -14,23 +15,32 @@ use Rattle.base.specs.SumsBelow.{sumBelow}
 use Rattle.format.specs.Geometry.{directoryEntries, directorySectors}
 use Rattle.format.specs.Kdmv.{kdmvFields, kdmvFault}
 use Rattle.format.specs.Cowd.{cowdFields, cowdFault}
-use Rattle.format.specs.Header.{kdmvHeader, cowdHeader, unlessFault, judgeCowd, judgeKdmvStart, judgeStart}
+use Rattle.format.specs.Header.{kdmvHeader, cowdHeader, startOf, unlessFault, judgeCowd, judgeKdmvStart, judgeStart}
 use Rattle.format.specs.Entries.{grainSectors}
-use Rattle.format.specs.Stream.{ifWhole, blockAt, KeptGrain, keptGrain, walkOn, walk, walkFrom, grainsEnd}
+use Rattle.format.specs.Check.{check}
+use Rattle.format.specs.Source.{sectorLookup}
+use Rattle.format.specs.Stream.{ifWhole, blockAt, KeptGrain, keptGrain, walkOn, walk, walkFrom, keptGrains, grainsEnd}
 use Rattle.format.specs.Tail.{keptEntry, hasGrains, markerBytes, tableParts, newDirectoryBytes, footerBytes, tailBytes}
-use Rattle.format.specs.Close.{closeFrom, closeJudged, close, tailWritten, closeOutput}
+use Rattle.format.specs.Close.{closedImage, closeFrom, closeJudged, close, tailWritten, closeOutput}
 use Rattle.format.specs.declared.Refusal.the-variants.{TooShort, Magic, Version, Flags, TooLittleRoom, NotClosable}
+use Rattle.format.specs.declared.Source.the-variants.{Packed}
+use Rattle.format.specs.declared.CheckAnswer.the-variants.{Accepted}
+use Rattle.format.specs.declared.LookupAnswer.the-variants.{Found}
 use Rattle.format.specs.declared.closing.CloseAnswer.{CloseAnswer}
 use Rattle.format.specs.declared.closing.CloseAnswer.the-variants.{Closed, Refused}
 use Rattle.laws.specs.Images.{joined, with, startSector, start, smallCowd, small, plainHeader, streamHeader, startHeader}
 use Rattle.laws.specs.Examples.{Example, example, Hold}
+use Rattle.laws.specs.Closed.{Closable, Among, first}
+use Rattle.laws.proofs.ClosedAccepted.{closed-accepted}
+use Rattle.laws.proofs.ClosedServed.{closed-packed}
+use Rattle.laws.proofs.ClosedAnswer.{closed-answer}
 
 -- a grain of one sector, with its first virtual sector and its size, and a marker of another kind
 abbrev grain : ℕ → ℕ → List ℕ
-grain first size = joined (leBytes 8 first ∷ leBytes 4 size ∷ replicate 500 0x99 ∷ [])
+grain sector size = joined (leBytes 8 sector ∷ leBytes 4 size ∷ replicate 500 0x99 ∷ [])
 
 abbrev marker : ℕ → ℕ → List ℕ
-marker first type = joined (leBytes 8 first ∷ leBytes 4 0 ∷ leBytes 4 type ∷ zeros 496 ∷ [])
+marker number type = joined (leBytes 8 number ∷ leBytes 4 0 ∷ leBytes 4 type ∷ zeros 496 ∷ [])
 
 -- ---- the walk over blocks from sector 0 on: capacity 16, grain size 8
 abbrev walked : List ℕ → List KeptGrain
@@ -138,3 +148,29 @@ pub outputs-hold :
     × (closeOutput start (replicate 2559 7) ≡ replicate 2559 7)
 unfolding pick powerUpTo leAt leBytes sameAt over zeros rows sumBelow directoryEntries directorySectors kdmvFields kdmvFault kdmvHeader unlessFault judgeKdmvStart judgeStart grainSectors ifWhole blockAt walkOn walk grainsEnd keptEntry hasGrains markerBytes tableParts newDirectoryBytes footerBytes tailBytes closeFrom closeJudged tailWritten
 outputs-hold = (refl, refl)
+
+-- ---- what is promised of closed images is promised of some: grain 1 was kept at sector 2 of this one
+abbrev oneGrain : List ℕ
+oneGrain = start ++ grain 8 500
+
+one-closed : close oneGrain 5120 ≡ Closed 3 1 5120
+unfolding pick powerUpTo leAt leBytes sameAt over zeros sumBelow directoryEntries directorySectors kdmvFields kdmvFault kdmvHeader unlessFault judgeKdmvStart judgeStart grainSectors ifWhole blockAt walkOn walk grainsEnd hasGrains closeFrom closeJudged
+one-closed = refl
+
+one-closable : Closable oneGrain
+one-closable = closed-answer oneGrain 5120 3 1 5120 one-closed .closable
+
+one-kept : keptGrains oneGrain (startOf oneGrain) ≡ keptGrain 1 2 1 ∷ []
+unfolding pick leAt leBytes over zeros kdmvFields kdmvHeader grainSectors ifWhole blockAt walkOn walk
+one-kept = refl
+
+pub one-accepted : check (closedImage oneGrain) ≡ Accepted 16 8
+unfolding leAt leBytes over zeros kdmvFields kdmvHeader
+one-accepted = closed-accepted oneGrain one-closable
+
+one-among : Among (keptGrain 1 2 1) (keptGrains oneGrain (startOf oneGrain))
+one-among = rw one-kept first
+
+pub one-served : sectorLookup (closedImage oneGrain) 9 ≡ Found (Packed 2 500 1)
+unfolding leAt leBytes over zeros kdmvFields kdmvHeader
+one-served = closed-packed oneGrain one-closable 9 (lit< tt) one-among refl

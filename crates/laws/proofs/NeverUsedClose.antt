@@ -28,9 +28,9 @@ use Rattle.format.specs.declared.closing.Block.the-variants.{Stop, Other, Grain
 use Rattle.format.specs.declared.closing.CloseAnswer.{CloseAnswer}
 use Rattle.format.proofs.Entries.{sectors-same}
 use Rattle.format.proofs.SameHeader.{string, kdmv-same, judge-cowd-same}
+use Rattle.format.proofs.BytesAt.{part-alike}
 use Rattle.laws.specs.NeverUsed.{SameSectors}
 use Rattle.laws.proofs.NeverUsed.{below, same-head}
-use Rattle.laws.proofs.ClosedHeader.{part-alike}
 use Rattle.laws.proofs.ClosedTwice.{tail-alike}
 
 -- after one block
