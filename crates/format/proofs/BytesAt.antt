@@ -1,4 +1,4 @@
--- The n bytes of an image from a place on: how many there are, what a comparison there says of them, and where two images agree.
+-- The n bytes of an image from a place on: how many there are, what a comparison there says of them, and those of two images.
 use Prim.Native.Nat.{ℕ, _+_, _≤_}
 use mathlib.Core.Path.{_≡_, sym, _∙_}
 use mathlib.Core.List.{List}
