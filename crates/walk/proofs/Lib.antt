@@ -1,3 +1,3 @@
 pub mod WalkSteps
 pub mod WalkRest
-pub mod Counting
+pub mod CountedBlocks

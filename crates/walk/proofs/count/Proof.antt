@@ -1,7 +1,7 @@
 use native.Mathlib.Omega.{arith}
 use lib.ListN.{length}
 use Rattle.walk.specs.Walked.{restOf}
-use Rattle.walk.proofs.Counting.{Counting, counting-starts, counting-less, counting-on, counting-ends}
+use Rattle.walk.proofs.CountedBlocks.{Counting, counting-starts, counting-less, counting-on, counting-ends}
 use borrow.Author.Needs.{needs}
 use Rattle.walk.proofs.count.Statement.{statement}
 use Rattle.walk.proofs.count.Tie as tie
