@@ -126,6 +126,16 @@ pub struct Mended {
     pub count: u64,
 }
 
+/// The closing's answer: kept sectors, kept grains, and the tail's length in bytes.
+#[derive(Clone, Copy, Debug, Default, PartialEq, Eq)]
+pub struct Closed {
+    pub number: u64,
+    pub place: u64,
+    pub sectors: u64,
+    pub grains: u64,
+    pub length: u64,
+}
+
 /// What a descriptor says beside its extents.
 #[derive(Clone, Copy, Debug, Default, PartialEq, Eq)]
 pub struct Described {

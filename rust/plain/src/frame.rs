@@ -1,7 +1,7 @@
 //! The frame: the areas of an image but its grains, in request A6's order. Refusals 1 to 8, then 21.
 
 use crate::answers::{outside, refusal, Framed, Outside, Refusal};
-use crate::header::judge;
+use crate::header::{judge, Header};
 use crate::image::{Entry, Image};
 use crate::numbers::past;
 
@@ -82,11 +82,16 @@ fn judge_areas(image: &Image) -> Result<(), Refusal> {
 
 /// The descriptor's part of 8: one number zero and one not, or past F.
 fn judge_descriptor(image: &Image) -> Result<(), Refusal> {
-    let (first, sectors) = (image.header.descriptor, image.header.descriptor_sectors);
-    if (first == 0) != (sectors == 0) || past(first, sectors, image.sectors()) {
+    if !descriptor_within(&image.header, image.sectors()) {
         return Err(outside(Outside::Descriptor));
     }
     Ok(())
+}
+
+/// Whether there is no descriptor, or one that has both its numbers and lies below sector `end`.
+pub fn descriptor_within(header: &Header, end: u64) -> bool {
+    let (first, sectors) = (header.descriptor, header.descriptor_sectors);
+    (first == 0) == (sectors == 0) && !past(first, sectors, end)
 }
 
 /// The redundant directory's part of 8: there is one, and it runs past F.

@@ -30,7 +30,7 @@ impl Kind {
     }
 }
 
-/// What a header that passed 1 to 7 says.
+/// What a header says that passed its rules.
 #[derive(Clone, Copy, Debug)]
 pub struct Header {
     pub kind: Kind,
@@ -48,6 +48,7 @@ pub struct Header {
     pub directory: u64,
     /// Entries that the directory's area has room for: n, or COWD's stored count.
     pub stored_entries: u64,
+    /// Whether sector 0 says that the directory is at the end.
     pub footer: bool,
     /// Byte 72 of KDMV, the u32 at 1648 of COWD. No header is refused for it.
     pub dirty: u64,
@@ -97,6 +98,15 @@ impl Header {
 
 /// The header of an image, or the first of refusals 1 to 7.
 pub fn judge(image: &[u8]) -> Result<Header, Refusal> {
+    let mut header = judge_start(image)?;
+    if header.footer {
+        header.directory = footer_directory(image).ok_or_else(|| refusal(7))?;
+    }
+    Ok(header)
+}
+
+/// What the first sectors alone say, or the first of refusals 1 to 6: a footer's directory sector is not yet known.
+pub fn judge_start(image: &[u8]) -> Result<Header, Refusal> {
     if image.len() < 4 {
         return Err(refusal(1));
     }
@@ -117,7 +127,7 @@ fn kdmv(image: &[u8]) -> Result<Header, Refusal> {
     let grain_size = number(image, 20, 8);
     let entries_per_table = number(image, 44, 4);
     let redundant = number(image, 48, 8);
-    let mut directory = number(image, 56, 8);
+    let directory = number(image, 56, 8);
     let compression = number(image, 77, 2);
 
     if !(1..=3).contains(&version) {
@@ -145,10 +155,6 @@ fn kdmv(image: &[u8]) -> Result<Header, Refusal> {
     {
         return Err(refusal(6));
     }
-    let footer = directory == AT_END;
-    if footer {
-        directory = footer_directory(image).ok_or_else(|| refusal(7))?;
-    }
     Ok(Header {
         kind: Kind::Kdmv,
         capacity,
@@ -160,7 +166,7 @@ fn kdmv(image: &[u8]) -> Result<Header, Refusal> {
         redundant,
         directory,
         stored_entries: up(capacity, 512 * grain_size),
-        footer,
+        footer: directory == AT_END,
         dirty: number(image, 72, 1),
     })
 }

@@ -7,6 +7,7 @@ mod answers;
 mod chain;
 mod check;
 mod check_in;
+mod close;
 mod describe;
 mod frame;
 mod header;
@@ -23,12 +24,13 @@ mod survey;
 mod write;
 
 pub use answers::{
-    Described, Extent, Found, Framed, Head, Located, Marked, Mended, Part, Refusal, Surveyed,
-    Verdict, Written, ABSENT, PACKED, STORED, ZERO,
+    Closed, Described, Extent, Found, Framed, Head, Located, Marked, Mended, Part, Refusal,
+    Surveyed, Verdict, Written, ABSENT, PACKED, STORED, ZERO,
 };
 pub use chain::chain;
 pub use check::check;
 pub use check_in::check_in;
+pub use close::close;
 pub use describe::{descriptor, find, MOST_EXTENTS, MOST_TEXT};
 pub use frame::frame;
 pub use header::header;
