@@ -52,6 +52,10 @@ answer! {
     Written { number, place, length }
 }
 answer! {
+    /// What a start of a stream keeps: its sectors, its grains, and the length, in bytes, of the tail that closes it.
+    Closed { number, place, sectors, grains, length }
+}
+answer! {
     /// What a descriptor says beside its extents.
     Described { number, place, extents, version, cid, parent_cid, type_at, type_length }
 }
@@ -135,6 +139,12 @@ extern "C" {
         out: *mut u8,
         out_length: usize,
     ) -> Written;
+    pub fn anhkhovet_close(
+        image: *const u8,
+        length: usize,
+        out: *mut u8,
+        out_length: usize,
+    ) -> Closed;
 }
 
 extern "C" {

@@ -10,6 +10,7 @@
 //! - [`lookup`] says where a sector comes from, [`chain`] the same for layers on top of each other, and [`read`] hands over
 //!   its bytes.
 //! - [`normal`] and [`collapse`] write an image into memory that is lent; [`to_kdmv`] and [`to_cowd`] write one as the other kind.
+//! - [`close`] writes what is missing of a stream that broke off.
 //! - [`mend`] brings the tables of one directory in line with those of its copy, in the lent image, and [`changes`] tells what it
 //!   changed.
 //! - [`descriptor`] reads a descriptor text, and [`find`] says which extent holds a sector; [`split`] says where a sector of a disk of
@@ -34,6 +35,7 @@
 #![warn(missing_docs)]
 
 mod areas;
+mod closing;
 mod disks;
 mod face;
 mod images;
@@ -47,6 +49,7 @@ mod texts;
 mod writing;
 
 pub use areas::{frame, Area, Group};
+pub use closing::{close, Closed};
 pub use disks::{split, Placed, SplitRefusal};
 pub use images::{check, header, profile, Disk, Header};
 pub use marks::{check_in, words_needed, Marked, MarkedRefusal};

@@ -8,8 +8,8 @@
 use crate::face;
 
 pub use face::{
-    Described, Extent, Found, Framed, Head, Located, Marked, Mended, Part, Surveyed, Verdict,
-    Written,
+    Closed, Described, Extent, Found, Framed, Head, Located, Marked, Mended, Part, Surveyed,
+    Verdict, Written,
 };
 
 /// The full check: refusals 1 to 12, or capacity and grain size.
@@ -153,6 +153,13 @@ pub fn to_kdmv(image: &[u8], out: &mut [u8]) -> Written {
 pub fn to_cowd(image: &[u8], out: &mut [u8]) -> Written {
     // SAFETY: see the top of the file.
     unsafe { face::anhkhovet_to_cowd(image.as_ptr(), image.len(), out.as_mut_ptr(), out.len()) }
+}
+
+/// Writes the tail that closes a start of a stream over the start of `out`: refusals 1 to 6, 41, then 21. The first
+/// `sectors` x 512 bytes of `image` and the tail after them are an image.
+pub fn close(image: &[u8], out: &mut [u8]) -> Closed {
+    // SAFETY: see the top of the file.
+    unsafe { face::anhkhovet_close(image.as_ptr(), image.len(), out.as_mut_ptr(), out.len()) }
 }
 
 /// Reads a descriptor and stores its extents at the start of the lent list.

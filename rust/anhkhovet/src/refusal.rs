@@ -6,8 +6,8 @@ use std::fmt;
 /// A refusal by document 01's rules. Shown, it is its number, its place where that counts something, and a sentence.
 #[derive(Clone, Copy, Debug, PartialEq, Eq, Hash)]
 pub struct Refusal {
-    /// Document 01's number: 1 to 12 of an image, 20 to 24, 27, 40, 42, 44 and 47 of what is asked, 30 to 36 of a text, 38, 39
-    /// and 45 of an extent.
+    /// Document 01's number: 1 to 12 of an image, 20 to 24, 27, 40 to 42, 44 and 47 of what is asked, 30 to 36 of a text, 38,
+    /// 39 and 45 of an extent.
     pub number: u64,
     /// The part, the grain, the byte or the line at fault, as [`Refusal::counted`] says, else 0.
     pub place: u64,
@@ -160,6 +160,10 @@ impl Refusal {
             40 => {
                 "the image cannot be mended from that side: it has one directory only, its two directories name tables in \
                  different places, header, footer, directories or tables share a sector, or it would still be refused"
+            }
+            41 => {
+                "the file is no start of a stream that can be closed: that has its directory at the end and no redundant one, at \
+                 most 2^31 sectors, grains from sector 2 on at least, and its descriptor, if any, before them"
             }
             42 => "from here on the file is not its own normal form",
             44 => "a grain of under 8 sectors has no place in KDMV, and a grain marked as zeros none in COWD",

@@ -29,6 +29,7 @@ examples! {
     chain "chain.rs"
     check "check.rs"
     check_in "check_in.rs"
+    close "close.rs"
     collapse "collapse.rs"
     descriptor "descriptor.rs"
     frame "frame.rs"

@@ -1,7 +1,7 @@
 //! Each call on a thread with the stack that the documentation states, and images that all of them go through to the end.
 
 use anhkhovet::{
-    chain, check, check_in, collapse, descriptor, find, frame, header, lookup, mend, normal,
+    chain, check, check_in, close, collapse, descriptor, find, frame, header, lookup, mend, normal,
     profile, raw, read, split, survey, to_cowd, to_kdmv, words_needed, Side, STACK,
 };
 use std::{fs, thread};
@@ -96,6 +96,16 @@ fn calls_on_sectors() {
     let layers = layers.concat();
     on(LITTLE, move || {
         assert!((0..2048).all(|sector| chain(&layers, &lengths, sector).is_ok()));
+    });
+}
+
+#[test]
+fn closing() {
+    let stream = sample("vmdkstream");
+    let mut tail = vec![0; 10 * 512];
+    on(LITTLE, move || {
+        assert_eq!(close(&stream, &mut tail).map(|kept| kept.grains), Ok(4));
+        assert!(close(&stream[..133 * 512], &mut tail[1..]).is_err());
     });
 }
 
