@@ -1,4 +1,4 @@
-//! The table's places: kinds of answers and refusals, with the calls that can give them.
+//! The table's places: kinds of answers, with the calls that can give them.
 
 use crate::tally::Call::{self, *};
 
@@ -21,7 +21,7 @@ const OF_TABLES: &[Call] = &[
 
 /// The calls that write.
 const WRITES: &[Call] = &[
-    CheckIn, Frame, Survey, Mend, Normal, Collapse, ToKdmv, ToCowd,
+    CheckIn, Frame, Survey, Mend, Normal, Collapse, ToKdmv, ToCowd, Close,
 ];
 
 /// The calls that write images of clean ones.
@@ -199,7 +199,7 @@ pub const ANSWERS: &[(&str, &[Call])] = &[
     ("44, table entry 1", &[ToCowd]),
     ("44, directory entry 1", &[ToCowd]),
     ("44, last grain alone", &[ToCowd]),
-    ("21, a byte short", MOVES),
+    ("21, a byte short", &[ToKdmv, ToCowd, Close]),
     ("21, no grain fits", MOVES),
     // Request A11: by what meets it, by the part that the first differing byte stands in, and where two refusals would hold.
     ("met, no grain", &[Profile]),
@@ -235,29 +235,58 @@ pub const ANSWERS: &[(&str, &[Call])] = &[
     ("27, 47 too", &[Profile]),
     ("27, sizes met", &[Profile]),
     ("8 to 12, 47 too", &[Profile]),
+    // Request A12: by what is kept, by the blocks on the way, by what ends the walk, and by the parts of 41.
+    ("closed, nothing there", &[Close]),
+    ("closed, no grain", &[Close]),
+    ("closed, all kept", &[Close]),
+    ("closed, odd length", &[Close]),
+    ("closed, whole stream", &[Close]),
+    ("closed, several tables", &[Close]),
+    ("closed, entry passed", &[Close]),
+    ("closed, first entry not", &[Close]),
+    ("closed, grain 0", &[Close]),
+    ("closed, entry 511", &[Close]),
+    ("closed, last grain", &[Close]),
+    ("closed, long directory", &[Close]),
+    ("closed, descriptor", &[Close]),
+    ("closed, no descriptor", &[Close]),
+    ("closed, up to overhead", &[Close]),
+    ("closed, overhead 2", &[Close]),
+    ("closed, dirty", &[Close]),
+    ("table between", &[Close]),
+    ("table first", &[Close]),
+    ("directory between", &[Close]),
+    ("long directory between", &[Close]),
+    ("table dropped", &[Close]),
+    ("directory dropped", &[Close]),
+    ("size 500", &[Close]),
+    ("size 501", &[Close]),
+    ("size 1012", &[Close]),
+    ("size 1013", &[Close]),
+    ("to the end", &[Close]),
+    ("stop, type 0", &[Close]),
+    ("stop, type 3", &[Close]),
+    ("stop, type above 3", &[Close]),
+    ("stop, low byte 1 or 2", &[Close]),
+    ("stop, grain cut", &[Close]),
+    ("stop, table cut", &[Close]),
+    ("stop, directory cut", &[Close]),
+    ("stop, no multiple", &[Close]),
+    ("stop, at capacity", &[Close]),
+    ("stop, far past", &[Close]),
+    ("stop, the same grain", &[Close]),
+    ("stop, a lower grain", &[Close]),
+    ("41, 21 too", &[Close]),
+    ("41, COWD", &[Close]),
+    ("41, directory told", &[Close]),
+    ("41, redundant", &[Close]),
+    ("41, overhead 0", &[Close]),
+    ("41, overhead 1", &[Close]),
+    ("41, overhead F + 1", &[Close]),
+    ("41, overhead past", &[Close]),
+    ("41, half a descriptor", &[Close]),
+    ("41, a sector past", &[Close]),
+    ("41, end that wraps", &[Close]),
+    ("1 to 6, 41 too", &[Close]),
+    ("21, no output", &[Close]),
 ];
-
-/// The refusals of documents 01 and 02, with the calls that can give them, a survey in its rows too; 37 is the program's own.
-pub fn gives(number: u64, call: Call) -> bool {
-    match call {
-        Check => (1..=12).contains(&number),
-        CheckIn => (1..=12).contains(&number) || number == 21,
-        Profile => (1..=12).contains(&number) || [23, 27, 42, 47].contains(&number),
-        Header => (1..=7).contains(&number),
-        Lookup => (1..=10).contains(&number) || number == 20,
-        Chain => (1..=10).contains(&number) || [20, 22, 24].contains(&number),
-        Read => false,
-        Frame => (1..=8).contains(&number) || number == 21,
-        Survey => (1..=12).contains(&number) || [21, 24].contains(&number),
-        Mend => (1..=8).contains(&number) || [21, 40].contains(&number),
-        Normal => (1..=12).contains(&number) || [21, 23, 27].contains(&number),
-        Collapse => (1..=12).contains(&number) || [21, 22, 23, 27].contains(&number),
-        ToKdmv | ToCowd => (1..=12).contains(&number) || [21, 23, 27, 44].contains(&number),
-        Descriptor => (30..=36).contains(&number) || number == 21,
-        Find => number == 20,
-        Split => {
-            let own = (1..=12).contains(&number) || [38, 39, 45].contains(&number);
-            own || (30..=36).contains(&number) || [20, 24].contains(&number)
-        }
-    }
-}

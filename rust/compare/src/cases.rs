@@ -5,7 +5,7 @@ use crate::image::{build, damage, suited, Built, Plan, Shape};
 use crate::rng::Rng;
 use crate::run::Run;
 use crate::tally::Call;
-use crate::{frames, lists, marks, mends, moves, profiles, splits, surveys, text};
+use crate::{frames, lists, marks, mends, moves, profiles, splits, starts, surveys, text};
 use plain::Extent;
 
 /// The numbers on a program's command line: COUNT, SEED and first CASE.
@@ -106,6 +106,9 @@ fn image_case(run: &mut Run, rng: &mut Rng, which: u64) {
     }
     if run.compares(Call::Profile) {
         profiles::case(run, rng, image);
+    }
+    if run.compares(Call::Close) {
+        starts::case(run, rng, image, which);
     }
     run.unchanged(Call::Check, &before, image);
 }

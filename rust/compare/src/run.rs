@@ -154,14 +154,14 @@ impl<'a> Run<'a> {
         self.count_unwritten(Call::Collapse, number, &layers, room);
     }
 
-    /// Both outputs hold the same pattern before, and are compared byte for byte after. The number of the answer.
-    pub(crate) fn write(
+    /// Both outputs hold the same pattern before, and are compared byte for byte after. The plain side's answer.
+    pub(crate) fn lend_output<T: Debug + PartialEq>(
         &mut self,
         call: Call,
         inputs: &[&[u8]],
         room: usize,
-        with: impl Fn(&dyn Side, &mut [u8]) -> plain::Written,
-    ) -> u64 {
+        with: impl Fn(&dyn Side, &mut [u8]) -> T,
+    ) -> T {
         for out in &mut self.outs {
             out.clear();
             while out.len() < room {
@@ -173,6 +173,18 @@ impl<'a> Run<'a> {
         let plain = with(self.sides[1], &mut self.outs[1]);
         let lent = self.outs[0] == self.outs[1];
         self.compare(call, [&tested, &plain], lent, inputs, &room);
+        plain
+    }
+
+    /// An image is written. The number of the answer.
+    pub(crate) fn write(
+        &mut self,
+        call: Call,
+        inputs: &[&[u8]],
+        room: usize,
+        with: impl Fn(&dyn Side, &mut [u8]) -> plain::Written,
+    ) -> u64 {
+        let plain = self.lend_output(call, inputs, room, with);
         if plain.number != 0 {
             self.tally.refused(call, plain.number, plain.place);
             self.count_layer(call, plain, inputs);

@@ -1,8 +1,8 @@
 //! The two sides behind one trait. Answers are the plain side's structs.
 
 use plain::{
-    Described, Extent, Found, Framed, Head, Located, Marked, Mended, Part, Surveyed, Verdict,
-    Written,
+    Closed, Described, Extent, Found, Framed, Head, Located, Marked, Mended, Part, Surveyed,
+    Verdict, Written,
 };
 
 pub trait Side {
@@ -26,6 +26,7 @@ pub trait Side {
     fn collapse(&self, lower: &[u8], upper: &[u8], out: &mut [u8]) -> Written;
     fn to_kdmv(&self, image: &[u8], out: &mut [u8]) -> Written;
     fn to_cowd(&self, image: &[u8], out: &mut [u8]) -> Written;
+    fn close(&self, image: &[u8], out: &mut [u8]) -> Closed;
     fn descriptor(&self, text: &[u8], list: &mut [Extent]) -> Described;
     fn find(&self, list: &[Extent], sector: u64) -> Found;
     fn split(&self, text: &[u8], files: &[u8], lengths: &[u64], sector: u64) -> Located;
@@ -82,6 +83,9 @@ impl Side for Plain {
     }
     fn to_cowd(&self, image: &[u8], out: &mut [u8]) -> Written {
         plain::to_cowd(image, out)
+    }
+    fn close(&self, image: &[u8], out: &mut [u8]) -> Closed {
+        plain::close(image, out)
     }
     fn descriptor(&self, text: &[u8], list: &mut [Extent]) -> Described {
         let (described, extents) = plain::descriptor(text, list.len());
@@ -160,6 +164,9 @@ mod proved {
         }
         fn to_cowd(&self, image: &[u8], out: &mut [u8]) -> Written {
             same!(raw::to_cowd(image, out) => Written { number, place, length })
+        }
+        fn close(&self, image: &[u8], out: &mut [u8]) -> Closed {
+            same!(raw::close(image, out) => Closed { number, place, sectors, grains, length })
         }
         fn descriptor(&self, text: &[u8], list: &mut [Extent]) -> Described {
             let mut records: Vec<Record> = list.iter().map(record).collect();

@@ -1,7 +1,8 @@
 //! What was reached: a count for each call and each answer or refusal that it gave.
 
-use crate::answers::{gives, ANSWERS};
+use crate::answers::ANSWERS;
 use crate::places::part;
+use crate::refusals::gives;
 use std::fmt::{self, Write};
 
 #[derive(Clone, Copy, Debug, PartialEq, Eq)]
@@ -20,6 +21,7 @@ pub enum Call {
     Collapse,
     ToKdmv,
     ToCowd,
+    Close,
     Descriptor,
     Find,
     Split,
@@ -27,7 +29,7 @@ pub enum Call {
 
 use Call::*;
 
-const CALLS: [(Call, &str); 17] = [
+const CALLS: [(Call, &str); 18] = [
     (Check, "check"),
     (CheckIn, "check_in"),
     (Profile, "profile"),
@@ -42,6 +44,7 @@ const CALLS: [(Call, &str); 17] = [
     (Collapse, "collapse"),
     (ToKdmv, "to_kdmv"),
     (ToCowd, "to_cowd"),
+    (Close, "close"),
     (Descriptor, "descriptor"),
     (Find, "find"),
     (Split, "split"),

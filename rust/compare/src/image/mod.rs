@@ -12,7 +12,7 @@ mod torn;
 pub use anywhere::anywhere;
 pub use build::build;
 pub use damage::{damage, meet, suited};
-pub use shape::{size, Plan, Shape};
+pub use shape::{size, up, Plan, Shape};
 pub use torn::{on_directories, torn};
 #[cfg(test)]
 pub use {parts::unused, shape::Cell};
