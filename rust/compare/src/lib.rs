@@ -21,7 +21,7 @@ pub mod run;
 mod sectors;
 pub mod side;
 mod splits;
-mod starts;
+pub mod starts;
 mod surveys;
 pub mod tally;
 mod text;

@@ -23,10 +23,8 @@ impl Run<'_> {
         if answer.number != 0 {
             self.tally.refused(Call::Close, answer.number, answer.place);
         }
-        for (row, holds) in rows(answer, image, room as u64) {
-            if holds {
-                self.tally.answered(Call::Close, row);
-            }
+        for row in rows(answer, image, room as u64) {
+            self.tally.answered(Call::Close, row);
         }
     }
 }
@@ -34,7 +32,15 @@ impl Run<'_> {
 /// Rows, and whether they hold.
 type Rows = Vec<(&'static str, bool)>;
 
-fn rows(answer: Closed, image: &[u8], room: u64) -> Rows {
+/// The rows of an answer, with an output of so many bytes.
+pub fn rows(answer: Closed, image: &[u8], room: u64) -> Vec<&'static str> {
+    let rows = judged_rows(answer, image, room).into_iter();
+    rows.filter(|(_, holds)| *holds)
+        .map(|(row, _)| row)
+        .collect()
+}
+
+fn judged_rows(answer: Closed, image: &[u8], room: u64) -> Rows {
     match answer.number {
         0 => [closed(answer, image, room), blocks(image), stops(image)].concat(),
         1..=6 => vec![("1 to 6, 41 too", judged(image))],

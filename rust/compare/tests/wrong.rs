@@ -17,6 +17,7 @@ macro_rules! mistakes {
     };
 }
 
+mod closes;
 mod dirty;
 mod frames;
 mod marks;
@@ -33,8 +34,8 @@ use compare::run::Run;
 use compare::side::{Plain, Side};
 use compare::tally::{Call, Tally};
 use plain::{
-    Described, Extent, Found, Framed, Head, Located, Marked, Mended, Part, Surveyed, Verdict,
-    Written,
+    Closed, Described, Extent, Found, Framed, Head, Located, Marked, Mended, Part, Surveyed,
+    Verdict, Written,
 };
 use std::path::PathBuf;
 
@@ -47,6 +48,7 @@ mistakes! {
     BytePastTheResult ByteOnRefusal LowerOverUpper RecordPastTheLast RecordOnRefusal
     LineFromZero EndThatWraps
     ; Split splits ; Dirty dirty ; Marks marks ; Frames frames ; Mends mends ; Moves moves ; Profiles profiles
+    ; Closes closes
 }
 
 impl Side for Mistake {
@@ -177,6 +179,13 @@ impl Side for Mistake {
         self.move_wrongly(true, image, out)
     }
 
+    fn close(&self, image: &[u8], out: &mut [u8]) -> Closed {
+        match self {
+            Closes(mistake) => mistake.close(image, out),
+            _ => Plain.close(image, out),
+        }
+    }
+
     fn descriptor(&self, text: &[u8], list: &mut [Extent]) -> Described {
         let mut described = Plain.descriptor(text, list);
         let past = described.number == 0 && *self == RecordPastTheLast;
@@ -229,6 +238,7 @@ fn each_mistake_is_caught() {
     let others = others.chain(mends::ALL.iter().copied().map(Mends));
     let others = others.chain(moves::ALL.iter().copied().map(Moves));
     let others = others.chain(profiles::ALL.iter().copied().map(Profiles));
+    let others = others.chain(closes::ALL.iter().copied().map(Closes));
     for mistake in ALL.iter().copied().chain(others) {
         // Few cases catch most, and as many as the gate runs the others.
         let caught = |count| {
@@ -247,14 +257,15 @@ fn the_plain_side_agrees_with_itself_and_reaches_every_place() {
 }
 
 /// Sectors marked are those of frame and lookups, mending that of frame and check, moves those of check and lookups, the profile
-/// that of check and normal form.
+/// that of check and normal form, closing that of header and a walk.
 #[test]
 fn what_is_made_anew_agrees() {
     let marks = Marks(marks::Mistake::Recounted);
     let mends = Mends(mends::Mistake::Remade);
     let moves = Moves(moves::Mistake::Remade);
     let profiles = Profiles(profiles::Mistake::Remade);
-    for remade in [moves, marks, mends, profiles] {
+    let closes = Closes(closes::Mistake::Remade);
+    for remade in [moves, marks, mends, profiles, closes] {
         assert_eq!(tally(&remade, 50_000).differences, 0, "{remade:?}");
     }
 }

@@ -7,8 +7,8 @@ use compare::places::{half_described, outside};
 use compare::side::{Plain, Side};
 use compare::tally::Call::{self, *};
 use plain::{
-    Described, Extent, Found, Framed, Head, Located, Marked, Mended, Part, Surveyed, Verdict,
-    Written,
+    Closed, Described, Extent, Found, Framed, Head, Located, Marked, Mended, Part, Surveyed,
+    Verdict, Written,
 };
 use std::cell::RefCell;
 
@@ -238,6 +238,9 @@ impl Side for Wrong {
 
     fn to_cowd(&self, image: &[u8], out: &mut [u8]) -> Written {
         placed!(self, ToCowd, image, Plain.to_cowd(image, out) => Written)
+    }
+    fn close(&self, image: &[u8], out: &mut [u8]) -> Closed {
+        Plain.close(image, out)
     }
 
     fn collapse(&self, lower: &[u8], upper: &[u8], out: &mut [u8]) -> Written {
