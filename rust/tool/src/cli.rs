@@ -33,6 +33,7 @@ pub enum Task {
     Normal(PathBuf, Target),
     Mend(mend::Asked),
     Move(Vec<PathBuf>, Target),
+    Close(PathBuf, Target),
     Describe(PathBuf, Option<u64>),
 }
 
@@ -88,6 +89,7 @@ fn task(name: &str, given: &ArgMatches) -> Option<Task> {
             all: given.get_flag("all"),
         }),
         "move" => Task::Move(files, target()?),
+        "close" => Task::Close(files.into_iter().next()?, target()?),
         "describe" => Task::Describe(files.into_iter().next()?, sector()),
         _ => return None,
     })
@@ -105,12 +107,13 @@ fn misused(task: &Task) -> Option<&'static str> {
         Task::Map(files) | Task::Coverage(files) | Task::Digest(files, _) => files,
         Task::Sector(files, _) | Task::Read(files, ..) | Task::Compare(files, _) => files,
         Task::Collapse(files, _) | Task::Move(files, _) => files,
-        Task::Normal(file, _) => std::slice::from_ref(file),
+        Task::Normal(file, _) | Task::Close(file, _) => std::slice::from_ref(file),
         Task::Mend(asked) => std::slice::from_ref(&asked.file),
         Task::Describe(..) => &[],
     };
     let output = match task {
-        Task::Collapse(_, to) | Task::Normal(_, to) | Task::Move(_, to) => Some(to),
+        Task::Collapse(_, to) | Task::Normal(_, to) => Some(to),
+        Task::Move(_, to) | Task::Close(_, to) => Some(to),
         Task::Mend(asked) => asked.target.as_ref(),
         _ => None,
     };

@@ -75,9 +75,8 @@ pub fn command() -> Command {
                 .help("Answer with one JSON object")
                 .action(ArgAction::SetTrue),
         );
-    moving(mending(writing(describing(digesting(reading(judging(
-        command,
-    )))))))
+    let command = describing(digesting(reading(judging(command))));
+    closing(moving(mending(writing(command))))
 }
 
 fn judging(command: Command) -> Command {
@@ -210,6 +209,16 @@ fn moving(command: Command) -> Command {
                 "The file to write, or a folder for files of the same names; each appears when it is whole",
                 true,
             ))
+            .arg(force()),
+    )
+}
+
+fn closing(command: Command) -> Command {
+    command.subcommand(
+        subcommand("close")
+            .about("Writes what a stream that broke off has kept, closed so that it is an image")
+            .arg(files("The start of a stream, which is only read").num_args(1))
+            .arg(output(IMAGE_OUT, true))
             .arg(force()),
     )
 }

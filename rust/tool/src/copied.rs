@@ -1,5 +1,5 @@
-//! A mended image written anew: the file's bytes, holes as holes, and what decides as it was judged, with the mended tables in
-//! it. The file itself is only read.
+//! Parts of a file written to an output; and a mended image written anew: the file's bytes, holes as holes, and what decides as it
+//! was judged, with the mended tables in it. The file itself is only read.
 
 use crate::entries::packed;
 use crate::failure::Failure;
@@ -37,33 +37,34 @@ impl Copied {
     pub fn write(self, mended: &Mended) -> Result<u64, Failure> {
         let file = &mended.image.files()[0];
         let writeback = Writeback::of(self.output.file()?);
-        self.copy(file)?;
+        copy(file, &self.parts, &self.output)?;
         settle(mended, &self.output)?;
         mended.image.same()?;
         drop(writeback);
         self.output.finish()?;
         Ok(file.length())
     }
+}
 
-    fn copy(&self, file: &Layer) -> Result<(), Failure> {
-        let all = self.parts.iter().map(|part| part.end - part.start).sum();
-        let progress = Progress::start("writing", all);
-        let mut buffer = Vec::new();
-        let mut done = 0;
-        for part in &self.parts {
-            let mut at = part.start;
-            while at < part.end {
-                let next = part.end.min(at + PART);
-                buffer.resize((next - at) as usize, 0);
-                file.read(at, &mut buffer)?;
-                self.output.put(at, &buffer)?;
-                done += next - at;
-                progress.at(done);
-                at = next;
-            }
+/// Copies these parts of a file to the same places of an output.
+pub fn copy(file: &Layer, parts: &[Range<u64>], output: &Output) -> Result<(), Failure> {
+    let all = parts.iter().map(|part| part.end - part.start).sum();
+    let progress = Progress::start("writing", all);
+    let mut buffer = Vec::new();
+    let mut done = 0;
+    for part in parts {
+        let mut at = part.start;
+        while at < part.end {
+            let next = part.end.min(at + PART);
+            buffer.resize((next - at) as usize, 0);
+            file.read(at, &mut buffer)?;
+            output.put(at, &buffer)?;
+            done += next - at;
+            progress.at(done);
+            at = next;
         }
-        Ok(())
     }
+    Ok(())
 }
 
 /// What decides, wherever the copy has something else: the mended tables, and whatever somebody wrote to the file meanwhile.

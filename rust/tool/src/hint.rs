@@ -1,5 +1,5 @@
-//! What helps on after a refusal: a descriptor is no image, lookups need few of an image's parts, copies that differ can be
-//! mended, and each image has a normal form.
+//! What helps on after a refusal: a descriptor is no image, a stream that broke off can be closed, lookups need few of an image's
+//! parts, copies that differ can be mended, and each image has a normal form.
 
 use crate::described::{Described, Opened};
 use crate::failure::{Failure, Refusal};
@@ -12,13 +12,16 @@ const DESCRIPTOR: &str = "it is a descriptor, which `anhkhovet describe` reads";
 const COPIES: &str =
     "`anhkhovet mend` lists the entries of tables that differ, and mends one side from the other in a copy";
 
+const BROKE_OFF: &str =
+    "of a download that broke off `anhkhovet close FILE -o OUT` keeps the whole grains";
+
 const NORMAL: &str = "`anhkhovet normal FILE -o OUT` writes the normal form";
 
 const SERVED: &str =
     "`anhkhovet sector`, `read`, `map` and `digest` of the image itself do without it";
 
 /// A refusal with what could be done instead, where that is known: of a descriptor that is handed in where single images are
-/// taken, of an image with a part outside the file that lookups do not need, of one whose two directories or their tables
+/// taken, of a stream without its footer, of an image with a part outside the file that lookups do not need, of one whose two directories or their tables
 /// differ, and of one that is not its normal form.
 pub fn hinted(failure: Failure) -> Failure {
     match failure {
@@ -33,6 +36,7 @@ pub fn hinted(failure: Failure) -> Failure {
 fn detailed(mut refusal: Refusal) -> Refusal {
     let hint = match (refusal.why.number, &refusal.file) {
         (2, Some(file)) => hint(file),
+        (7, _) => BROKE_OFF.to_string(),
         (8, _) => refusal.why.part().map_or("", without).to_string(),
         (11, _) => COPIES.to_string(),
         (42, _) => NORMAL.to_string(),

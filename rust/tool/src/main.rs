@@ -9,6 +9,7 @@ mod changes;
 mod check;
 mod checked;
 mod cli;
+mod close;
 mod commands;
 mod copied;
 mod cores;
@@ -57,6 +58,7 @@ mod sector;
 mod signals;
 mod source;
 mod split;
+mod start;
 mod still_open;
 mod streams;
 mod survey;
@@ -87,6 +89,7 @@ fn run(task: Task, json: bool) -> Result<(), Failure> {
         Task::Normal(file, target) => write::normal(&file, &target, json),
         Task::Mend(asked) => mend::mend(&asked, json),
         Task::Move(files, target) => moves::run(&files, &target, json),
+        Task::Close(file, target) => close::close(&file, &target, json),
         Task::Describe(file, sector) => describe::describe(&file, sector, json),
     }
 }
