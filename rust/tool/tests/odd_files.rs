@@ -23,6 +23,7 @@ fn readers(odd: &str) -> Vec<Vec<&str>> {
         vec!["mend", odd, "--good", "primary"],
         vec!["mend", odd, "--good", "primary", "-o", "out"],
         vec!["move", odd, "-o", "out"],
+        vec!["close", odd, "-o", "out"],
         vec!["collapse", odd, IMAGE, "-o", "out"],
         vec!["collapse", IMAGE, odd, "-o", "out"],
         vec!["collapse", IMAGE, IMAGE, odd, "-o", "out"],

@@ -17,7 +17,7 @@ use std::process::{Child, Stdio};
 use std::thread::sleep;
 use std::time::{Duration, Instant};
 
-const COMMANDS: [&[&str]; 10] = [
+const COMMANDS: [&[&str]; 11] = [
     &["check", "it"],
     &["sector", "it", "0"],
     &["read", "it", "0"],
@@ -26,6 +26,7 @@ const COMMANDS: [&[&str]; 10] = [
     &["normal", "it", "-o", "out"],
     &["mend", "it", "--good", "primary", "-o", "out"],
     &["move", "it", "-o", "out"],
+    &["close", "it", "-o", "out"],
     &["collapse", "it", "it", "-o", "out"],
     &["describe", "it"],
 ];

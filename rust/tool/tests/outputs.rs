@@ -101,6 +101,7 @@ fn a_bad_target_is_told_before_the_work() {
         &["normal", "none", "-o"][..],
         &["mend", "none", "--good", "redundant", "-o"][..],
         &["move", "none", "-o"][..],
+        &["close", "none", "-o"][..],
         &["collapse", "none", "none", "-o"][..],
         &["collapse", CHAIN[0], CHAIN[1], "none", "-o"][..],
     ];

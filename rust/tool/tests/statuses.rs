@@ -8,7 +8,12 @@ use std::os::unix::io::FromRawFd;
 use std::path::Path;
 use std::process::{Command, Stdio};
 
-const FILES: [&str; 3] = ["tool-base.vmdk", "tool-middle.vmdk", "two-gb-sparse.vmdk"];
+const FILES: [&str; 4] = [
+    "tool-base.vmdk",
+    "tool-middle.vmdk",
+    "two-gb-sparse.vmdk",
+    "vmdkstream.vmdk",
+];
 
 /// The samples, of which one is a descriptor without its extent's file, one that was still open, a list that holds and one that
 /// does not.
@@ -49,6 +54,7 @@ fn each_status_has_its_meaning() {
         ("mend --good primary tool-base.vmdk", 0),
         ("mend --good redundant open", 0),
         ("move tool-base.vmdk -o moved", 0),
+        ("close vmdkstream.vmdk -o closed", 0),
         ("check holds", 1),
         ("profile published tool-base.vmdk", 1),
         ("profile open", 1),
@@ -65,6 +71,8 @@ fn each_status_has_its_meaning() {
         ("collapse tool-middle.vmdk open -o out", 1),
         ("move open -o out", 1),
         ("move tool-middle.vmdk -o out", 1),
+        ("close tool-base.vmdk -o out", 1),
+        ("close holds -o out", 1),
         ("check", 2),
         ("survey", 2),
         ("profile", 2),
@@ -82,6 +90,9 @@ fn each_status_has_its_meaning() {
         ("mend --good primary -", 2),
         ("move tool-base.vmdk", 2),
         ("move tool-base.vmdk open -o out", 2),
+        ("close vmdkstream.vmdk", 2),
+        ("close vmdkstream.vmdk open -o out", 2),
+        ("close vmdkstream.vmdk -o -", 2),
         ("digest tool-base.vmdk --list differs", 3),
         ("digest tool-base.vmdk --list two-gb-sparse.vmdk", 3),
         ("check missing", 4),
@@ -98,6 +109,8 @@ fn each_status_has_its_meaning() {
         ("mend --good primary missing", 4),
         ("move missing -o out", 4),
         ("move tool-base.vmdk -o holds", 4),
+        ("close missing -o out", 4),
+        ("close vmdkstream.vmdk -o holds", 4),
         ("mend --good primary tool-base.vmdk -o holds", 4),
     ] {
         assert_eq!(status(&folder, words), Some(wanted), "{words}");

@@ -4,6 +4,8 @@
 //! A transcript has for each run a line `$ WORDS`, the lines of standard output, those of standard error after `! `, and
 //! the exit status where it is not 0.
 
+#[path = "common/broken.rs"]
+mod broken;
 mod common;
 #[path = "common/dirty.rs"]
 mod dirty;
@@ -100,6 +102,7 @@ fn transcript(name: &str) {
     labs::add(&folder);
     outside::add(&folder);
     published::add(&folder);
+    broken::add(&folder);
     add_files(&folder);
 
     let mut now = String::new();
@@ -143,5 +146,5 @@ macro_rules! transcripts {
 
 transcripts!(
     check survey sector read map coverage digest collapse normal describe refusals outside split still_open mend moves
-    profile
+    profile close
 );
