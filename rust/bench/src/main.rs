@@ -6,6 +6,7 @@
 
 mod bitmap;
 mod check;
+mod close;
 mod collapse;
 mod commands;
 mod copies;
@@ -35,7 +36,7 @@ use std::process::exit;
 
 /// Inputs depend on it alone.
 const SEED: u64 = 7;
-const CALLS: [&str; 11] = [
+const CALLS: [&str; 12] = [
     "check",
     "marks",
     "profile",
@@ -46,6 +47,7 @@ const CALLS: [&str; 11] = [
     "chain",
     "collapse",
     "moves",
+    "close",
     "descriptor",
 ];
 /// Not among them: it needs the tool, built, and measures a disk too.
@@ -163,6 +165,9 @@ fn run(quick: bool, calls: &[String]) -> Result<Report, Box<dyn Error>> {
     if wanted("moves") {
         moves::measure(&setup, &mut report)?;
     }
+    if wanted("close") {
+        close::measure(&setup, &mut report)?;
+    }
     if wanted("descriptor") {
         descriptor::measure(&setup, &mut report)?;
     }
@@ -193,6 +198,7 @@ fn a_quick_run_has_rows_for_every_call() -> Outcome {
         "collapse",
         "move to COWD",
         "move to KDMV",
+        "close",
         "descriptor",
     ] {
         assert!(table.contains(&format!("| {call} |")), "{call}");

@@ -3,7 +3,7 @@
 #[cfg(feature = "proved")]
 mod proved {
     use anhkhovet::raw;
-    use plain::{Described, Extent, Located, Marked, Mended, Surveyed, Verdict, Written};
+    use plain::{Closed, Described, Extent, Located, Marked, Mended, Surveyed, Verdict, Written};
 
     /// A struct of the one side from the other's, field by field.
     macro_rules! same {
@@ -53,6 +53,10 @@ mod proved {
         same!(raw::to_cowd(image, out) => Written { number, place, length })
     }
 
+    pub fn close(image: &[u8], out: &mut [u8]) -> Closed {
+        same!(raw::close(image, out) => Closed { number, place, sectors, grains, length })
+    }
+
     pub fn describe(text: &[u8]) -> (Described, Vec<Extent>) {
         let mut records = [raw::Extent::default(); plain::MOST_EXTENTS];
         let described = raw::descriptor(text, &mut records);
@@ -66,7 +70,8 @@ mod proved {
 
 #[cfg(feature = "proved")]
 pub use proved::{
-    chain, check, check_in, collapse, describe, lookup, mend, profile, survey, to_cowd, to_kdmv,
+    chain, check, check_in, close, collapse, describe, lookup, mend, profile, survey, to_cowd,
+    to_kdmv,
 };
 
 #[cfg(not(feature = "proved"))]
@@ -84,6 +89,6 @@ mod stand_in {
 
 #[cfg(not(feature = "proved"))]
 pub use {
-    plain::{chain, check, check_in, lookup, mend, profile, survey, to_cowd, to_kdmv},
+    plain::{chain, check, check_in, close, lookup, mend, profile, survey, to_cowd, to_kdmv},
     stand_in::{collapse, describe},
 };
