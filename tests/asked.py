@@ -3,7 +3,7 @@ import pathlib
 import struct
 import sys
 
-IMAGE, CHAIN, COLLAPSE, TEXT, FIND, LOOKUPS, FRAME, SURVEY, SPLIT, CHECK_IN, MEND, MOVE, PROFILE = range(13)
+IMAGE, CHAIN, COLLAPSE, TEXT, FIND, LOOKUPS, FRAME, SURVEY, SPLIT, CHECK_IN, MEND, MOVE, PROFILE, CLOSE = range(14)
 # The records of a list that is searched.
 SEARCHED = 32
 

@@ -24,7 +24,7 @@ fn stored_files() {
 #[test]
 fn small_input() {
     let input = std::fs::read(root().join("crates/cases/stdin")).unwrap();
-    assert!(input.len() <= 2_950_000, "{} bytes", input.len());
+    assert!(input.len() <= 3_000_000, "{} bytes", input.len());
 }
 
 /// The stored surveys have images of each refusal number of the check.
@@ -128,6 +128,7 @@ fn every_refusal() {
             "to_cowd",
             check.iter().copied().chain([21, 23, 27, 44]).collect(),
         ),
+        ("close", (0..=6).chain([21, 41]).collect()),
         ("descriptor", [0, 21].into_iter().chain(30..=35).collect()),
         ("find", vec![0, 20]),
         (

@@ -1,7 +1,7 @@
 //! The lines that the program prints for a case: a call and the numbers of its answer.
 
-use super::{Case, CHAIN, CHECK_IN, COLLAPSE, FIND, FRAME, IMAGE, MEND, MOVE, PROFILE, SPLIT};
-use super::{MOST_ROWS, MOST_WORDS, SEARCHED, SHORT, SHORT_TALLY, SURVEY, TALLY, TEXT};
+use super::{Case, CHAIN, CHECK_IN, CLOSE, COLLAPSE, FIND, FRAME, IMAGE, MEND, MOVE, PROFILE};
+use super::{MOST_ROWS, MOST_WORDS, SEARCHED, SHORT, SHORT_TALLY, SPLIT, SURVEY, TALLY, TEXT};
 use crate::input::Input;
 use crate::numbers::{described, digest, extent, found, handed_over, line, located};
 use plain::{Extent, Refusal, Verdict, Written};
@@ -21,6 +21,7 @@ impl Case {
                 self.moved_line("to_cowd ", plain::to_cowd),
             ],
             PROFILE => vec![verdict_line("profile ", plain::profile(&self.bytes))],
+            CLOSE => vec![self.close_line()],
             _ => Vec::new(),
         };
         for sector in &self.sectors {
@@ -95,6 +96,14 @@ impl Case {
         let mut out = vec![170; self.room as usize];
         let w = write(&mut out);
         line(call, &[w.number, w.place, w.length, digest(&out)])
+    }
+
+    /// The answer of closing, and the digest of the whole output, whose bytes were 170 before.
+    fn close_line(&self) -> String {
+        let mut out = vec![170; self.room as usize];
+        let c = plain::close(&self.bytes, &mut out);
+        let answer = [c.number, c.place, c.sectors, c.grains, c.length];
+        line(&line("close ", &answer), &[digest(&out)])
     }
 
     /// The list of a call that takes one: each word is 170.

@@ -1,7 +1,7 @@
 //! Which cases are stored: real images from samples, and generated ones that reach each answer of each call.
 
 use super::record::Recorder;
-use super::{Case, CHECK_IN, FIND, FRAME, IMAGE, MEND, MOST_WORDS, MOVE, PROFILE};
+use super::{Case, CHECK_IN, CLOSE, FIND, FRAME, IMAGE, MEND, MOST_WORDS, MOVE, PROFILE};
 use super::{SPLIT, SURVEY, TEXT};
 use compare::cases::case;
 use compare::marks::that_meets;
@@ -10,6 +10,7 @@ use compare::profiles::part;
 use compare::rng::Rng;
 use compare::run::Run;
 use compare::side::Plain;
+use compare::starts;
 use compare::tally::Call;
 use plain::{Mended, STORED};
 use std::collections::BTreeMap;
@@ -24,6 +25,9 @@ const MOST_LAYERS: usize = 17;
 const MOST_ROOM: u64 = 65_536;
 /// What a word of a list holds before a call, as it is printed.
 const HELD: &str = "170";
+
+/// What has so many kinds of answers that one of each is enough.
+const ONCE: [u64; 7] = [SURVEY, SPLIT, CHECK_IN, MEND, MOVE, PROFILE, CLOSE];
 
 /// Samples small enough to be stored a second time.
 const SAMPLES: [&str; 3] = ["cowd-s001", "vmdkstream", "stream-optimized-data"];
@@ -89,7 +93,7 @@ fn wanted(case: &Case, answer: &str) -> u64 {
         (true, _) => 15,
         // By its place one is enough.
         _ if answer.contains(" 8 at ") => 1,
-        (false, _) if [SURVEY, SPLIT, CHECK_IN, MEND, MOVE, PROFILE].contains(&case.asked) => 1,
+        (false, _) if ONCE.contains(&case.asked) => 1,
         (false, true) => 2,
         // By all its groups, by its dirty number, or at sector 1, one is enough.
         (false, false) if case.asked == FRAME || answer.ends_with("at 1") => 1,
@@ -133,11 +137,14 @@ fn fits(case: &Case) -> bool {
     case.bytes.len() <= most && short && !cut
 }
 
-/// What kinds of answers a line has: a tally one for each refusal number, a survey one for each place of 8 in its rows, mending one
-/// for each row of the comparison's table, any other line one.
+/// What kinds of answers a line has: a tally one for each refusal number, a survey one for each place of 8 in its rows, mending and
+/// closing one for each row of the comparison's table, any other line one.
 fn kinds(case: &Case, line: &str) -> Vec<String> {
     if case.asked == MEND {
         return mended(case, line);
+    }
+    if case.asked == CLOSE {
+        return closed(case, line);
     }
     if let Some(words) = line.strip_prefix("survey 0 ") {
         let words: Vec<&str> = words.split(' ').skip(5).collect();
@@ -244,6 +251,14 @@ fn marked(case: &Case, words: &[&str]) -> String {
         "21" => format!("{number} {}", plain::check(image).number),
         _ => format!("{number} {}", case.room > 0),
     }
+}
+
+/// The kinds of a closing's answer: its number, and its rows.
+fn closed(case: &Case, line: &str) -> Vec<String> {
+    let answer = plain::close(&case.bytes, &mut vec![0; case.room as usize]);
+    let rows = starts::rows(answer, &case.bytes, case.room).into_iter();
+    let kinds = rows.map(|row| format!("close, {row}"));
+    kinds.chain([kind(case, line)]).collect()
 }
 
 /// The kinds of a mending's answer: its number, with the good side, and what is told of it.

@@ -39,6 +39,8 @@ const MEND: u64 = 10;
 const MOVE: u64 = 11;
 /// The lab profile.
 const PROFILE: u64 = 12;
+/// Closing, into an output whose length is the room.
+const CLOSE: u64 = 13;
 
 const SEARCHED: usize = 32;
 const MOST_WORDS: usize = 96;

@@ -1,14 +1,14 @@
 //! The generators of `compare`, listened to: a side that keeps what it is asked and answers as the plain one does.
 
 use super::{
-    Case, CHAIN, CHECK_IN, COLLAPSE, FIND, FRAME, IMAGE, MEND, MOVE, PROFILE, SEARCHED, SHORT,
-    SHORT_TALLY, SPLIT, SURVEY, TEXT,
+    Case, CHAIN, CHECK_IN, CLOSE, COLLAPSE, FIND, FRAME, IMAGE, MEND, MOVE, PROFILE, SEARCHED,
+    SHORT, SHORT_TALLY, SPLIT, SURVEY, TEXT,
 };
 use crate::numbers::extent;
 use compare::side::{Plain, Side};
 use plain::{
-    Described, Extent, Found, Framed, Head, Located, Marked, Mended, Part, Surveyed, Verdict,
-    Written,
+    Closed, Described, Extent, Found, Framed, Head, Located, Marked, Mended, Part, Surveyed,
+    Verdict, Written,
 };
 use std::cell::RefCell;
 
@@ -152,6 +152,10 @@ impl Side for Recorder {
     fn to_cowd(&self, image: &[u8], out: &mut [u8]) -> Written {
         self.lent(MOVE, image, out.len());
         Plain.to_cowd(image, out)
+    }
+    fn close(&self, image: &[u8], out: &mut [u8]) -> Closed {
+        self.lent(CLOSE, image, out.len());
+        Plain.close(image, out)
     }
     fn descriptor(&self, text: &[u8], list: &mut [Extent]) -> Described {
         self.keep(Case {
