@@ -68,7 +68,7 @@ module _ (s : List ℕ) (h : Header) (end directory tables d room : ℕ) (c : Ne
   unfolding tableParts pick
   row-yes x y before next e p l q =
       let has = has-yes s h (ready .walking) d (ready .few) c (ready .left) e in
-      record { left = l; count = rw has; bytes = q ∙ rw (has, p, ← ready .below) }
+      record { left = l; counted = rw has; bytes = q ∙ rw (has, p, ← ready .below) }
 
   pub row-no : (y before : List ℕ) → (c .number / 512 ≡ d → ⊥) → y ≡ over before (directory + 4 * d) (leBytes 4 0)
       → RowPut s h end directory tables d (record { tables = tables; next = c }) before y
@@ -77,7 +77,7 @@ module _ (s : List ℕ) (h : Header) (end directory tables d room : ℕ) (c : Ne
       let has = has-no s h (ready .walking) d (ready .few) c (ready .left) n in
       record {
         left = left-later s h (ready .walking) d (ready .few) c (ready .left) n;
-        count = rw has (omega arith);
+        counted = rw has (omega arith);
         bytes = q ∙ rw (has, ← over-none before (2560 * tables));
       }
 
@@ -153,7 +153,7 @@ module _ (s : List ℕ) (h : Header) (w : Walking s h) (end directory n : ℕ) (
           (omega (arith, D-length (d + 1) more-within, room)) in
           record {
             left = let e : 512 * d + 512 ≡ 512 * (d + 1) = omega arith in rw e at (p .left);
-            below = p .count ∙ rw (k .below, add-one);
+            below = p .counted ∙ rw (k .below, add-one);
             same =
                 ap length bytes
                 ∙ over-length (D (d + 1)) directory (E (d + 1))

@@ -46,7 +46,7 @@ pub record RowReady (s : List ℕ) (h : Header) (directory tables d room : ℕ) 
 -- what is then known
 pub record RowPut (s : List ℕ) (h : Header) (end directory tables d : ℕ) (r : Rows) (before after : List ℕ) : Type 0 where
   pub left : Left s h (512 * d + 512) (r .next)
-  pub count : r .tables ≡ tables + oneIfTable (keptGrains s h) d
+  pub counted : r .tables ≡ tables + oneIfTable (keptGrains s h) d
   pub bytes : after ≡ over (over before (2560 * tables) (tableParts (keptGrains s h) d)) (directory + 4 * d)
       (leBytes 4 (newDirectoryEntry end (keptGrains s h) d))
 
