@@ -30,5 +30,5 @@ pub fn add(folder: &Folder) {
     write("broken-open", &changed(&[(72, 1)])[..133 * SECTOR]);
     write("two-directories", &changed(&[(48, 1)]));
     write("overhead-1", &changed(&[(64, 1)]));
-    write("half-described", &changed(&[(36, 0)]));
+    write("broken-described", &changed(&[(36, 0)]));
 }
