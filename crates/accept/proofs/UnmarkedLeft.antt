@@ -5,20 +5,23 @@ use mathlib.Core.List.{List}
 use mathlib.Core.Bool.{Bool, true, false}
 use native.Mathlib.Omega.{arith}
 use Rattle.base.specs.Pick.{pick}
-use Rattle.format.specs.Header.{headerOf, judge}
-use Rattle.format.specs.Check.{checkLayout, checkFrom, check}
+use Rattle.format.specs.Header.{headerOf, judgeOf}
+use Rattle.format.specs.Check.{checkLayout, checkApart, checkFrom, checkOf}
 use Rattle.format.specs.CheckIn.{cameToMarking}
 use Rattle.format.specs.Judged.{Unmarked}
+use Rattle.format.specs.declared.Taken.{Taken}
 use Rattle.format.specs.declared.Header.{Header}
 use Rattle.format.specs.declared.Refusal.{Refusal}
 use Rattle.format.specs.declared.CheckAnswer.{CheckAnswer}
 use Rattle.format.specs.declared.CheckAnswer.the-variants.{Accepted, Refused}
 use Rattle.format.specs.declared.HeaderAnswer.{HeaderAnswer}
 use Rattle.format.specs.declared.HeaderAnswer.the-variants.{Known, Refused as unknown}
-use Rattle.format.proofs.HeaderJudged.{judged-header}
+use Rattle.format.proofs.HeaderJudged.{taken-header}
 use Rattle.format.proofs.CameToMarking.{header-early, unmarked-of}
 use Rattle.format.proofs.Picked.{passed}
+use Rattle.overlap.specs.InFile.{InFile}
 use Rattle.accept.specs.Unmarked.{unmarkedOf}
+use Rattle.accept.proofs.Checked.{in-file}
 use Rattle.accept.proofs.UnmarkedSteps.{early-refused}
 
 not-both : (x : Refusal) (h : Header) → unknown x ≡ Known h → ⊥
@@ -44,25 +47,33 @@ refused-left (Refused x) h r e =
     let q = p .1 in
     (cc, p .0)
 
-module _ (s : List ℕ) where
+module _ (taken : Taken) (s : List ℕ) where
   -- ---- at the arms of a match
-  module _ (a : HeaderAnswer) (e : a ≡ unmarkedOf (check s) (headerOf s)) where
-    pub left-known : (h : Header) → a ≡ Known h → Unmarked s h
+  module _ (a : HeaderAnswer) (e : a ≡ unmarkedOf (checkOf taken s) (headerOf s)) where
+    pub left-known : (h : Header) → a ≡ Known h → Unmarked taken s h
     left-known h q =
-        let k = known-came (check s) (headerOf s) h (sym e ∙ q) in rw (k .1) at (unmarked-of s (k .0))
+        let k = known-came (checkOf taken s) (headerOf s) h (sym e ∙ q) in rw (k .1) at (unmarked-of taken s (k .0))
 
-    pub left-refused : (r : Refusal) (z : CheckAnswer) → a ≡ unknown r → z ≡ Refused r → z ≡ check s
-    left-refused r z q t = t ∙ sym (refused-left (check s) (headerOf s) r (sym e ∙ q) .0)
+    pub left-in-file : (h : Header) → a ≡ Known h → InFile s h
+    left-in-file h q = in-file s h taken (left-known h q)
 
-  module _ (a : HeaderAnswer) (e : a ≡ judge s) (z : HeaderAnswer) where
-    pub judge-known : (h : Header) → a ≡ Known h → z ≡ unmarkedOf (checkLayout s h) h → z ≡ unmarkedOf (check s) (headerOf s)
+    pub left-apart : (h : Header) (z : CheckAnswer) → a ≡ Known h → z ≡ checkApart s h → z ≡ checkOf taken s
+    left-apart h z q t = t ∙ sym (left-known h q .left)
+
+    pub left-refused : (r : Refusal) (z : CheckAnswer) → a ≡ unknown r → z ≡ Refused r → z ≡ checkOf taken s
+    left-refused r z q t = t ∙ sym (refused-left (checkOf taken s) (headerOf s) r (sym e ∙ q) .0)
+
+  module _ (a : HeaderAnswer) (e : a ≡ judgeOf taken s) (z : HeaderAnswer) where
+    pub judge-known : (h : Header) → a ≡ Known h → z ≡ unmarkedOf (checkLayout s h) h
+        → z ≡ unmarkedOf (checkOf taken s) (headerOf s)
     unfolding checkFrom
     judge-known h q t =
-        let j : judge s ≡ Known h = sym e ∙ q in
-        let is : headerOf s ≡ h = sym (judged-header s h j) in
+        let j : judgeOf taken s ≡ Known h = sym e ∙ q in
+        let is : headerOf s ≡ h = sym (taken-header s taken h j) in
         rw (j, is) t
 
-    pub judge-refused : (r : Refusal) → a ≡ unknown r → z ≡ unknown r → z ≡ unmarkedOf (check s) (headerOf s)
+    pub judge-refused : (r : Refusal) → a ≡ unknown r → z ≡ unknown r → z ≡ unmarkedOf (checkOf taken s) (headerOf s)
     unfolding checkFrom
     judge-refused r q t =
-        let j : judge s ≡ unknown r = sym e ∙ q in rw j (t ∙ sym (early-refused r (headerOf s) (header-early s r j)))
+        let j : judgeOf taken s ≡ unknown r = sym e ∙ q in
+        rw j (t ∙ sym (early-refused r (headerOf s) (header-early taken s r j)))

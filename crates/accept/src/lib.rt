@@ -1,10 +1,11 @@
-// The full check: refusals 1 to 12, each over the whole image.
+// The full check: refusals 1 to 12, with 43 after 2, each over the whole image.
 ghost use mathlib.Core.Path.{_≡_};
-ghost use Rattle.format.specs.Header.{headerOf, judge};
-ghost use Rattle.format.specs.Check.{lowestBadMarker, unlessGrain, checkCopies, checkGrains, checkLayout, check};
-ghost use Rattle.format.specs.declared.HeaderAnswer.the-variants.{Known};
+ghost use Rattle.format.specs.Header.{headerOf};
+ghost use Rattle.format.specs.Check.{lowestBadMarker, unlessGrain, checkApart, checkCopies, checkGrains, checkLayout};
+ghost use Rattle.format.specs.Check.{checkOf, check};
 ghost use Rattle.format.specs.declared.Refusal.the-variants.{Marker};
-ghost use Rattle.format.specs.Judged.{Placed, Filed, Unmarked};
+ghost use Rattle.format.specs.Judged.{Sound, Placed, Filed};
+ghost use Rattle.overlap.specs.InFile.{InFile};
 ghost use Rattle.accept.specs.AcceptedHeader.{acceptedHeader};
 ghost use Rattle.accept.specs.Unmarked.{unmarkedOf};
 use format::CheckAnswer;
@@ -12,6 +13,7 @@ use format::Header;
 use format::HeaderAnswer;
 use format::Lowest;
 use format::Refusal;
+use format::Taken;
 
 // 11: the header, where the copies are alike.
 fn judge_copies(image: &[u8], h: Header) -> HeaderAnswer
@@ -52,7 +54,7 @@ fn judge_grains(image: &[u8], h: Header) -> HeaderAnswer
 
 // 8 to 11.
 fn judge_layout(image: &[u8], h: Header) -> HeaderAnswer
-    requires { ⌜ judge (now image) ≡ Known h ⌝ }
+    requires { ⌜ Sound h ⌝ }
     ensures { λ r. ⌜ r ≡ unmarkedOf (checkLayout (now (image .entry)) h) h ⌝ }
 {
     if places::misplaced(image, h) {
@@ -62,10 +64,10 @@ fn judge_layout(image: &[u8], h: Header) -> HeaderAnswer
 }
 
 // Refusals 1 to 11: the header of an image of which nothing but 12 is left to judge.
-pub fn unmarked(image: &[u8]) -> HeaderAnswer
-    ensures { λ r. ⌜ r ≡ unmarkedOf (check (now (image .entry))) (headerOf (now (image .entry))) ⌝ }
+pub fn unmarked_of(taken: Taken, image: &[u8]) -> HeaderAnswer
+    ensures { λ r. ⌜ r ≡ unmarkedOf (checkOf taken (now (image .entry))) (headerOf (now (image .entry))) ⌝ }
 {
-    let judged = header::judge(image);
+    let judged = header::judge_of(taken, image);
     match judged {
         HeaderAnswer::Refused(r) => HeaderAnswer::Refused(r),
         HeaderAnswer::Known(h) => judge_layout(image, h),
@@ -74,8 +76,8 @@ pub fn unmarked(image: &[u8]) -> HeaderAnswer
 
 // 12, the last of them.
 fn check_apart(image: &[u8], h: Header) -> CheckAnswer
-    requires { ⌜ Unmarked (now image) h ⌝ }
-    ensures { λ r. ⌜ r ≡ check (now (image .entry)) ⌝ }
+    requires { ⌜ InFile (now image) h ⌝ }
+    ensures { λ r. ⌜ r ≡ checkApart (now (image .entry)) h ⌝ }
 {
     if order::areas_meet(image, h) {
         return CheckAnswer::Refused(Refusal::SharedSector);
@@ -87,10 +89,10 @@ fn check_apart(image: &[u8], h: Header) -> CheckAnswer
 }
 
 // Accepted, with capacity and grain size, exactly where the image meets every layout rule; else the first refusal.
-pub fn check(image: &[u8]) -> CheckAnswer
-    ensures { λ r. ⌜ r ≡ check (now (image .entry)) ⌝ }
+fn check_of(taken: Taken, image: &[u8]) -> CheckAnswer
+    ensures { λ r. ⌜ r ≡ checkOf taken (now (image .entry)) ⌝ }
 {
-    let left = unmarked(image);
+    let left = unmarked_of(taken, image);
     match left {
         HeaderAnswer::Refused(r) => CheckAnswer::Refused(r),
         HeaderAnswer::Known(h) => check_apart(image, h),
@@ -98,15 +100,28 @@ pub fn check(image: &[u8]) -> CheckAnswer
 }
 
 // The header of an accepted image, or why it is refused.
-pub fn accepted(image: &[u8]) -> HeaderAnswer
-    ensures { λ r. ⌜ r ≡ acceptedHeader (check (now (image .entry))) (headerOf (now (image .entry))) ⌝ }
+pub fn accepted_of(taken: Taken, image: &[u8]) -> HeaderAnswer
+    ensures { λ r. ⌜ r ≡ acceptedHeader (checkOf taken (now (image .entry))) (headerOf (now (image .entry))) ⌝ }
 {
-    let checked = check(image);
+    let checked = check_of(taken, image);
     match checked {
         CheckAnswer::Refused(r) => HeaderAnswer::Refused(r),
         CheckAnswer::Accepted {
             capacity: _,
             grain_size: _,
-        } => header::judge(image),
+        } => header::judge_of(taken, image),
     }
+}
+
+// For every call but the moves: COWD is refused.
+pub fn check(image: &[u8]) -> CheckAnswer
+    ensures { λ r. ⌜ r ≡ check (now (image .entry)) ⌝ }
+{
+    check_of(Taken::KdmvAlone, image)
+}
+
+pub fn accepted(image: &[u8]) -> HeaderAnswer
+    ensures { λ r. ⌜ r ≡ acceptedHeader (check (now (image .entry))) (headerOf (now (image .entry))) ⌝ }
+{
+    accepted_of(Taken::KdmvAlone, image)
 }

@@ -18,6 +18,7 @@ use Rattle.format.specs.Header.{headerOf, judge}
 use Rattle.format.specs.Areas.{areas, meet}
 use Rattle.format.specs.Check.{checkApart, check}
 use Rattle.format.specs.CheckIn.{wordsNeeded, markedSectors, cameToMarking, checkInRoom, withMarked, checkIn, listAfterCheck}
+use Rattle.format.specs.declared.Taken.the-variants.{KdmvAlone}
 use Rattle.format.specs.declared.Header.{Header}
 use Rattle.format.specs.declared.Refusal.{Refusal}
 use Rattle.format.specs.declared.Refusal.the-variants.{TooLittleRoom, SharedSector}
@@ -41,7 +42,7 @@ unfolding answerOf cameToMarking pick
 answer-same true h m = refl
 answer-same false h m = refl
 
-module _ (s : List ℕ) (h : Header) (u : Unmarked s h) where
+module _ (s : List ℕ) (h : Header) (u : Unmarked KdmvAlone s h) where
   came : cameToMarking (check s) ≡ true
   came = rw (u .left) (apart-came s h)
 

@@ -5,12 +5,14 @@ ghost use Rattle.format.specs.Areas.{areas};
 ghost use Rattle.format.specs.CheckIn.{wordsNeeded, checkIn, listAfterCheck};
 ghost use Rattle.overlap.specs.InFile.{InFile};
 ghost use Rattle.format.specs.Judged.{Unmarked};
+ghost use Rattle.format.specs.declared.Taken.the-variants.{KdmvAlone};
 ghost use Rattle.accept_in.specs.Lent.{Told, answerOf, unmarkedBy, Lent};
 use format::CheckAnswer;
 use format::Header;
 use format::HeaderAnswer;
 use format::MarkedAnswer;
 use format::Refusal;
+use format::Taken;
 
 // A word for every 64 file sectors, rounded up.
 fn words_needed(image: &[u8]) -> usize
@@ -67,7 +69,7 @@ fn unmarked_by(refusal: Refusal) -> MarkedAnswer
 
 // 21, then 12.
 fn check_apart_in(image: &[u8], h: Header, list: &mut [u64]) -> MarkedAnswer
-    requires { ⌜ Unmarked (now image) h ⌝ }
+    requires { ⌜ Unmarked KdmvAlone (now image) h ⌝ }
     ensures { λ r. ⌜ Lent (now (image .entry)) (now (list .entry)) r (now (list .exit)) ⌝ }
 {
     let needed = words_needed(image);
@@ -84,7 +86,7 @@ pub fn check_in(image: &[u8], list: &mut [u64]) -> MarkedAnswer
     ensures { λ r. ⌜ r ≡ checkIn (now (image .entry)) (length (now (list .entry))) ⌝ }
     ensures { λ r. ⌜ now (list .exit) ≡ listAfterCheck (now (image .entry)) (now (list .entry)) ⌝ }
 {
-    let left = accept::unmarked(image);
+    let left = accept::unmarked_of(Taken::KdmvAlone, image);
     match left {
         HeaderAnswer::Refused(r) => unmarked_by(r),
         HeaderAnswer::Known(h) => check_apart_in(image, h, &mut *list),

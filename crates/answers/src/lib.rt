@@ -64,6 +64,7 @@ fn numbers_of(refusal: Refusal) -> Numbers
         Refusal::NotMendable => Numbers(40, 0),
         Refusal::NotClosable => Numbers(41, 0),
         Refusal::NotNormal(byte) => Numbers(42, byte),
+        Refusal::KindGone => Numbers(43, 0),
         Refusal::NotMovable => Numbers(44, 0),
         Refusal::ProfileSizes => Numbers(47, 0),
     }

@@ -8,49 +8,26 @@ use lib.Dec.{ltb}
 use lib.ListN.{length}
 use borrow.Author.Tests.{ltb-false}
 use Rattle.base.specs.Pick.{pick}
-use Rattle.base.specs.Strings.{sameAt}
-use Rattle.base.proofs.Steps.{or-no, cond-all}
+use Rattle.base.proofs.Steps.{or-no}
 use Rattle.base.proofs.Rounding.{ceil-most}
 use Rattle.base.proofs.SumsBelow.{sum-most}
 use Rattle.format.specs.Geometry.{fileSectors, directoryEntries}
-use Rattle.format.specs.Kdmv.{kdmvMagic}
-use Rattle.format.specs.Cowd.{cowdMagic}
-use Rattle.format.specs.Header.{directoryEntriesOf, judgeKdmvStart, judgeCowd, judgeStart}
+use Rattle.format.specs.Header.{directoryEntriesOf, judgeStart}
 use Rattle.format.specs.Stream.{overhead, keptGrains}
 use Rattle.format.specs.Tail.{hasGrains, oneIfTable}
 use Rattle.format.specs.Check.{descriptorMisplaced}
 use Rattle.format.specs.Close.{noStream, walkMisplaced, notClosable}
 use Rattle.format.specs.declared.Header.{Header}
-use Rattle.format.specs.declared.Refusal.the-variants.{Magic}
-use Rattle.format.specs.declared.HeaderAnswer.{HeaderAnswer}
 use Rattle.format.specs.declared.HeaderAnswer.the-variants.{Known}
 use Rattle.format.proofs.Geometry.{directory-room}
-use Rattle.format.proofs.Picked.{known-past}
 use Rattle.format.proofs.HeaderStart.{started, StartSizes, started-sizes}
 use Rattle.walk.specs.Walked.{Walkable, Tallied}
 use Rattle.walk.specs.declared.Counted.{Counted}
 use Rattle.tail.specs.TailPut.{Walking}
 
--- ---- a header that is known has its sector 0, of either kind
-module _ (s : List ℕ) where
-  abbrev Long : HeaderAnswer → Type 0
-  Long a = (h : Header) → a ≡ Known h → 512 ≤ length s
-
-  kdmv-long : Long (judgeKdmvStart s)
-  unfolding judgeKdmvStart
-  kdmv-long h e = ltb-false (length s) 512 (known-past _ _ _ h e .0)
-
-  cowd-long : Long (judgeCowd s)
-  unfolding judgeCowd
-  cowd-long h e = omega (arith, ltb-false (length s) 2048 (known-past _ _ _ h e .0))
-
-  pub known-long : Long (judgeStart s)
-  unfolding judgeStart
-  known-long h e =
-      cond-all Long (sameAt s 0 kdmvMagic) _ _ (λ t. kdmv-long)
-      (λ n. cond-all Long (sameAt s 0 cowdMagic) _ _ (λ t. cowd-long)
-      (λ m k q. let z : _≡_ {A = ℕ} 0 1 = cc in absurd (omega arith)))
-      h (known-past (ltb (length s) 4) _ _ h e .1)
+-- a header that is known has its sector 0
+pub known-long : (s : List ℕ) (h : Header) → judgeStart s ≡ Known h → 512 ≤ length s
+known-long s h e = started s h e .long
 
 -- ---- a stream that can be walked
 module _ (s : List ℕ) (h : Header) where
@@ -69,11 +46,10 @@ module _ (s : List ℕ) (h : Header) where
       → Walking s h × (directoryEntriesOf h * 4 ≤ 512 * h .«directory_sectors»)
   walking-of e c f =
       let a = or-no (noStream h) _ (sym c ∙ f) in
-      let k = or-no (h .cowd) _ (a .0) in
       let m = or-no (walkMisplaced s) (descriptorMisplaced (overhead s) h) (a .1) in
       let o = or-no (ltb 0x80000000 (fileSectors s)) _ (m .0) in
       let p = or-no (ltb (overhead s) 2) (ltb (fileSectors s) (overhead s)) (o .1) in
-      let t = started s h e (k .0) in
+      let t = started s h e in
       let z = started-sizes s h t in (
         record {
           walkable = sizes-walkable z;

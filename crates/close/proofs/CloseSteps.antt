@@ -3,12 +3,11 @@ use Prim.Native.Nat.{ℕ, _+_, _*_, _≤_, _<_}
 use mathlib.Core.Path.{_≡_, refl, sym, ap, _∙_}
 use mathlib.Core.List.{List}
 use mathlib.Core.Bool.{Bool, true, false}
-use mathlib.Core.Logic.{⊎-elim}
 use native.Mathlib.Omega.{arith}
 use lib.ListN.{length}
 use Rattle.base.specs.Pick.{pick}
 use Rattle.base.specs.Bytes.{over}
-use Rattle.base.proofs.Steps.{stop, skip, stop-lt, skip-lt, true-or-false}
+use Rattle.base.proofs.Steps.{stop, skip, stop-lt, skip-lt}
 use Rattle.format.specs.Header.{startOf, judgeStart}
 use Rattle.format.specs.Stream.{keptGrains, keptSectors}
 use Rattle.format.specs.Close.{notClosable, tailOf, tailLength, closeFrom, closeJudged, close, tailWritten, closeOutput}
@@ -65,18 +64,10 @@ module _ {b : Bool} (s : List ℕ) (h : Header) (room : ℕ) (d : List ℕ) (e :
       rw (← q) p
 
 -- ---- the header
--- the tail is that of the start's own header; where it is not, nothing is written
-module _ (s : List ℕ) (h : Header) (room : ℕ) (d : List ℕ) where
-  cowd-refused : h .cowd ≡ true → closeFrom s h room ≡ Refused NotClosable
-  unfolding closeFrom pick
-  cowd-refused c = rw c
-
-  own-tail : judgeStart s ≡ Known h → tailWritten (closeFrom s h room) (tailOf s h) d
-      ≡ tailWritten (closeFrom s h room) (tailOf s (startOf s)) d
-  unfolding tailWritten
-  own-tail e =
-      ⊎-elim (λ c. rw (cowd-refused c)) (λ n. ap (λ (k : Header). tailWritten (closeFrom s h room) (tailOf s k) d)
-      (started s h e n .is)) (true-or-false (h .cowd))
+-- the tail is that of the start's own header
+own-tail : (s : List ℕ) (h : Header) (room : ℕ) (d : List ℕ) → judgeStart s ≡ Known h
+    → tailWritten (closeFrom s h room) (tailOf s h) d ≡ tailWritten (closeFrom s h room) (tailOf s (startOf s)) d
+own-tail s h room d e = ap (λ (k : Header). tailWritten (closeFrom s h room) (tailOf s k) d) (started s h e .is)
 
 module _ (a : HeaderAnswer) (s d : List ℕ) (e : a ≡ judgeStart s) where
   pub unknown-refused : (r : Refusal) → a ≡ unknown r

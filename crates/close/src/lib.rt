@@ -16,11 +16,11 @@ use format::Refusal;
 use format::closing::CloseAnswer;
 use walk::overhead;
 
-// No KDMV start with directory at end, or one with a redundant directory.
+// No start with directory at end, or one with a redundant directory.
 fn no_stream(h: Header) -> bool
     ensures { λ r. ⌜ r ≡ noStream h ⌝ }
 {
-    h.cowd | (!h.footer | !(h.redundant == 0))
+    !h.footer | !(h.redundant == 0)
 }
 
 // Too many sectors, or a walk that would start in the header or past the end.

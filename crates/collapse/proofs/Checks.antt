@@ -42,17 +42,14 @@ module _ (s : List ℕ) (h : Header) where
           let r = none-lowest (grainPast s h) (grainsOf h) (c .filed .none) g l in
           omega (arith, named-in (fileSectors s) (grainSectors s (h .packed) (h .«grain_size»)) e (rw q at r), whole plain e)
 
-  plain : notCollapsible h ≡ false → h .packed ≡ false
-  plain e = or-no (h .cowd) (h .packed) e .1
-
 pub layers-of : {a b c : Bool} (lower : List ℕ) (h : Header) (upper : List ℕ) (k : Header) → Checked lower h → Checked upper k
     → a ≡ notCollapsible h → b ≡ notCollapsible k → (a || b) ≡ false → c ≡ unlike h k → c ≡ false → Layers lower h upper k
 layers-of {a} {b} lower h upper k p q e f n i j =
     let o = or-no a b n in
     let s = alike h k (sym i ∙ j) in
     record {
-      below = readable lower h p (plain lower h (sym e ∙ o .0));
-      above = readable upper k q (plain upper k (sym f ∙ o .1));
+      below = readable lower h p (sym e ∙ o .0);
+      above = readable upper k q (sym f ∙ o .1);
       capacity = sym (s .0);
       size = sym (s .1);
     }

@@ -9,12 +9,13 @@ use Rattle.base.specs.Pick.{pick}
 use Rattle.base.specs.Bytes.{over}
 use Rattle.base.proofs.Steps.{stop, skip, stop-lt, skip-lt}
 use Rattle.format.specs.Header.{headerOf}
-use Rattle.format.specs.Check.{check}
+use Rattle.format.specs.Check.{checkOf}
 use Rattle.format.specs.Chain.{unlike}
 use Rattle.format.specs.Grains.{Map, merge, grainMap}
 use Rattle.format.specs.Collapse.{mapOf, laidLength, normalForm, collapsed, ifAccepted, notCollapsible, stillOpen}
 use Rattle.format.specs.Collapse.{writtenIfRoom, normalFrom, collapseFrom, output}
 use Rattle.format.specs.declared.Kind.the-variants.{Kdmv}
+use Rattle.format.specs.declared.Taken.{Taken}
 use Rattle.format.specs.declared.Header.{Header}
 use Rattle.format.specs.declared.Refusal.{Refusal}
 use Rattle.format.specs.declared.Refusal.the-variants.{TooLittleRoom, LayersDiffer, NotCollapsible, StillOpen}
@@ -97,8 +98,8 @@ module _ {a b : Bool} (h k : Header) (m : Map) (room : ℕ) (image d : List ℕ)
     then-alike j p = as-well (sym (skip _ _ _ both n (skip _ _ _ i j refl))) p
 
 -- ---- the checks
-module _ (s : List ℕ) (a : HeaderAnswer) (e : a ≡ acceptedHeader (check s) (headerOf s)) (x : CollapseAnswer)
-    (image d : List ℕ) where
+module _ (taken : Taken) (s : List ℕ) (a : HeaderAnswer) (e : a ≡ acceptedHeader (checkOf taken s) (headerOf s))
+    (x : CollapseAnswer) (image d : List ℕ) where
   refused-by : (b : CheckAnswer) (r : Refusal) → acceptedHeader b (headerOf s) ≡ unknown r → Refused r ≡ ifAccepted b x
   unfolding acceptedHeader ifAccepted
   refused-by (unaccepted q) r p = cc
@@ -109,12 +110,12 @@ module _ (s : List ℕ) (a : HeaderAnswer) (e : a ≡ acceptedHeader (check s) (
   known-by (unaccepted q) h p = let n : _≡_ {A = ℕ} 0 1 = cc in absurd (omega arith)
   known-by (Accepted c z) h p = refl
 
-  pub unknown-refused : (r : Refusal) → a ≡ unknown r → Answered (ifAccepted (check s) x) image d (Refused r) d
-  unknown-refused r q = refused _ image d r (refused-by (check s) r (sym e ∙ q))
+  pub unknown-refused : (r : Refusal) → a ≡ unknown r → Answered (ifAccepted (checkOf taken s) x) image d (Refused r) d
+  unknown-refused r q = refused _ image d r (refused-by (checkOf taken s) r (sym e ∙ q))
 
   pub known-on : (h : Header) → a ≡ Known h → {r : CollapseAnswer} {y : List ℕ} → Answered x image d r y
-      → Answered (ifAccepted (check s) x) image d r y
-  known-on h q p = as-well (known-by (check s) h (sym e ∙ q)) p
+      → Answered (ifAccepted (checkOf taken s) x) image d r y
+  known-on h q p = as-well (known-by (checkOf taken s) h (sym e ∙ q)) p
 
 -- the layers' headers are those that their bytes tell
 pub layers-as : (lower upper : List ℕ) (h k : Header) → Checked lower h → Checked upper k

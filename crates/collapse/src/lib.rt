@@ -21,7 +21,7 @@ use format::Refusal;
 pub fn not_collapsible(h: Header) -> bool
     ensures { λ r. ⌜ r ≡ notCollapsible h ⌝ }
 {
-    h.cowd | h.packed
+    h.packed
 }
 
 // Any number but 0.

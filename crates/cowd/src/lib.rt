@@ -1,16 +1,17 @@
-// A COWD header, sectors 0 to 3: refusals 1, 3 and 6.
+// A COWD header, sectors 0 to 3: refusals 1, 43, 3 and 6.
 ghost use mathlib.Core.Path.{_≡_};
 ghost use Prim.Native.Nat.{_≤_, _<_};
 ghost use lib.ListN.{length};
 ghost use Rattle.base.specs.Numbers.{leAt};
 ghost use Rattle.format.specs.Cowd.{cowdFields, cowdVersionBroken, cowdSizesBroken, countBroken, cowdFault};
-ghost use Rattle.format.specs.Header.{cowdHeader, judgeCowd};
+ghost use Rattle.format.specs.Header.{cowdHeader, kindGone, judgeCowd};
 ghost use Rattle.format.specs.Judged.{Sized};
 use format::CowdFields;
 use format::Fault;
 use format::Header;
 use format::HeaderAnswer;
 use format::Refusal;
+use format::Taken;
 use sizes::capacity_broken;
 use sizes::directory_entries;
 use sizes::directory_sectors;
@@ -96,11 +97,24 @@ fn header(k: CowdFields) -> Header
     }
 }
 
-pub fn judge(image: &[u8]) -> HeaderAnswer
-    ensures { λ r. ⌜ r ≡ judgeCowd (now (image .entry)) ⌝ }
+// Only a call that takes either kind takes COWD.
+fn kind_gone(taken: Taken) -> bool
+    ensures { λ r. ⌜ r ≡ kindGone taken ⌝ }
+{
+    match taken {
+        Taken::KdmvAlone => true,
+        Taken::Either => false,
+    }
+}
+
+pub fn judge(taken: Taken, image: &[u8]) -> HeaderAnswer
+    ensures { λ r. ⌜ r ≡ judgeCowd taken (now (image .entry)) ⌝ }
 {
     if image.len() < 2048 {
         return HeaderAnswer::Refused(Refusal::TooShort);
+    }
+    if kind_gone(taken) {
+        return HeaderAnswer::Refused(Refusal::KindGone);
     }
     let k = fields(image);
     let found = fault(k);

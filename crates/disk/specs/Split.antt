@@ -14,13 +14,13 @@ use Rattle.descriptor.specs.declared.Extent.{Extent}
 use Rattle.descriptor.specs.declared.Parsed.{Parsed}
 use Rattle.descriptor.specs.declared.Found.{Found as FoundRecord}
 use Rattle.format.specs.Geometry.{fileSectors}
-use Rattle.format.specs.Kdmv.{kdmvMagic}
 use Rattle.format.specs.Cowd.{cowdMagic}
 use Rattle.format.specs.Areas.{area, endsPast}
 use Rattle.format.specs.Check.{check}
 use Rattle.format.specs.Source.{sectorLookup}
 use Rattle.format.specs.Chain.{lengthsSum, layerAt}
 use Rattle.format.specs.Answers.{served, unserved}
+use Rattle.format.specs.declared.Refusal.the-variants.{KindGone}
 use Rattle.format.specs.declared.Source.{Source}
 use Rattle.format.specs.declared.Source.the-variants.{Zero, Stored}
 use Rattle.format.specs.declared.CheckAnswer.{CheckAnswer}
@@ -56,16 +56,16 @@ inAccepted s e i o (checkRefused r) = Image i r
 inAccepted s e i o (Accepted capacity grainSize) =
     pick (eqb capacity (e .sectors)) (lookedUp i (sectorLookup s o)) (CapacityDiffers i)
 
--- the other kind's magic is 45
-unfoldable pub inImage : List ℕ → List ℕ → Extent → ℕ → ℕ → SplitAnswer
-inImage other s e i o = pick (sameAt s 0 other) (OtherFile i) (inAccepted s e i o (check s))
+-- SPARSE is a KDMV image; COWD's magic is 45
+unfoldable pub inImage : List ℕ → Extent → ℕ → ℕ → SplitAnswer
+inImage s e i o = pick (sameAt s 0 cowdMagic) (OtherFile i) (inAccepted s e i o (check s))
 
--- SPARSE is a KDMV image, VMFSSPARSE, which is left, a COWD one
+-- VMFSSPARSE, which is left, is COWD, and so 43 by the line alone (request A13)
 unfoldable pub byType : List ℕ → Extent → ℕ → ℕ → SplitAnswer
 byType s e i o =
     pick (eqb (e .kind) ZERO) (inZero s i)
     (pick (eqb (e .kind) FLAT || eqb (e .kind) VMFS) (inPlain s e i o)
-    (pick (eqb (e .kind) SPARSE) (inImage cowdMagic s e i o) (inImage kdmvMagic s e i o)))
+    (pick (eqb (e .kind) SPARSE) (inImage s e i o) (Image i KindGone)))
 
 -- NOACCESS is 39
 unfoldable pub inExtent : List ℕ → Extent → ℕ → ℕ → SplitAnswer

@@ -13,8 +13,8 @@ use Rattle.format.specs.declared.Refusal.{Refusal}
 use Rattle.format.specs.declared.Refusal.the-variants.{TooShort, Magic, Version, Newline, Flags, Sizes, Footer, Misplaced}
 use Rattle.format.specs.declared.Refusal.the-variants.{GrainPast, Marker, CopiesDiffer, SharedSector, SectorPast}
 use Rattle.format.specs.declared.Refusal.the-variants.{TooLittleRoom, LayersDiffer, NotCollapsible, LayerLengths}
-use Rattle.format.specs.declared.Refusal.the-variants.{StillOpen, NotMendable, NotClosable, NotNormal, NotMovable}
-use Rattle.format.specs.declared.Refusal.the-variants.{ProfileSizes}
+use Rattle.format.specs.declared.Refusal.the-variants.{StillOpen, NotMendable, NotClosable, NotNormal, KindGone}
+use Rattle.format.specs.declared.Refusal.the-variants.{NotMovable, ProfileSizes}
 use Rattle.format.specs.declared.Source.{Source}
 use Rattle.format.specs.declared.Source.the-variants.{Absent, Zero, Stored, Packed}
 use Rattle.format.specs.declared.CheckAnswer.{CheckAnswer}
@@ -76,7 +76,8 @@ refusalOf n p =
     (pick (eqb n 27) StillOpen
     (pick (eqb n 40) NotMendable
     (pick (eqb n 41) NotClosable
-    (pick (eqb n 42) (NotNormal p) (pick (eqb n 44) NotMovable ProfileSizes)))))))))))))))))))))
+    (pick (eqb n 42) (NotNormal p)
+    (pick (eqb n 43) KindGone (pick (eqb n 44) NotMovable ProfileSizes))))))))))))))))))))))
 
 -- a refusal has its number and place, and the number is not 0
 record Told (r : Refusal) : Type 0 where
@@ -110,6 +111,7 @@ told StillOpen = record { back = refl; some = refl }
 told NotMendable = record { back = refl; some = refl }
 told NotClosable = record { back = refl; some = refl }
 told (NotNormal byte) = record { back = refl; some = refl }
+told KindGone = record { back = refl; some = refl }
 told NotMovable = record { back = refl; some = refl }
 told ProfileSizes = record { back = refl; some = refl }
 

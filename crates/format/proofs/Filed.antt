@@ -9,14 +9,15 @@ use borrow.Author.Tests.{eqb-true}
 use Rattle.format.specs.Geometry.{fileSectors}
 use Rattle.format.specs.Kdmv.{kdmvFields}
 use Rattle.format.specs.Cowd.{cowdFields}
-use Rattle.format.specs.Header.{kdmvHeader, cowdHeader, kdmvHeaderOf, cowdHeaderOf, grainsOf, judge}
+use Rattle.format.specs.Header.{kdmvHeader, cowdHeader, kdmvHeaderOf, cowdHeaderOf, grainsOf, judgeOf}
 use Rattle.format.specs.Areas.{grainArea, areas, runsPast}
 use Rattle.format.specs.Check.{misplaced, grainPast, lowestPast}
 use Rattle.format.specs.Accepted.{KdmvRules, CowdRules}
+use Rattle.format.specs.declared.Taken.{Taken}
 use Rattle.format.specs.declared.Header.{Header}
 use Rattle.format.specs.declared.Lowest.the-variants.{None}
 use Rattle.format.specs.declared.HeaderAnswer.the-variants.{Known}
-use Rattle.format.proofs.HeaderJudged.{judged-rules}
+use Rattle.format.proofs.HeaderJudged.{taken-rules}
 use Rattle.format.proofs.Inside.{in-one, none-in, in-rows, in-there, Inside, in-groups}
 use Rattle.format.proofs.LowestGrain.{none-lowest}
 use Rattle.format.proofs.Places.{places-kept}
@@ -40,9 +41,9 @@ module _ (s : List ℕ) where
 
   module _ (h : Header) where
     -- so it is where 1 to 7 are not given
-    pub judged-front : judge s ≡ Known h → Fronted s h
-    judged-front e =
-        ⊎-elim (λ r. rw (r .1) (kdmv-fronted (r .0))) (λ r. rw (r .1) (cowd-fronted (r .0))) (judged-rules s h e)
+    pub taken-front : (taken : Taken) → judgeOf taken s ≡ Known h → Fronted s h
+    taken-front taken e =
+        ⊎-elim (λ r. rw (r .1) (kdmv-fronted (r .0))) (λ r. rw (r .2) (cowd-fronted (r .1))) (taken-rules s taken h e)
 
     -- and with 8 and 9 all areas do
     pub inside-all : Fronted s h → misplaced s h ≡ false → lowestPast s h ≡ None → Inside s h
@@ -61,6 +62,6 @@ module _ (s : List ℕ) where
           grains = in-rows f (grainsOf h) (grainArea s h) (none-lowest (grainPast s h) (grainsOf h) n);
         }
 
-    pub all-in-file : judge s ≡ Known h → misplaced s h ≡ false → lowestPast s h ≡ None → runsPast (fileSectors s) (areas s h)
-        ≡ false
-    all-in-file e m n = in-groups s h (inside-all (judged-front e) m n)
+    pub all-in-file : (taken : Taken) → judgeOf taken s ≡ Known h → misplaced s h ≡ false → lowestPast s h ≡ None
+        → runsPast (fileSectors s) (areas s h) ≡ false
+    all-in-file taken e m n = in-groups s h (inside-all (taken-front taken e) m n)

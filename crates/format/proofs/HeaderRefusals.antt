@@ -1,7 +1,8 @@
--- A header is refused with no number over 7, and a start's with none over 6.
+-- A header is refused with no number over 7 but 43, and a start's with none over 6 but 43.
 use Prim.Native.Nat.{ℕ, _≤_}
-use mathlib.Core.Path.{_≡_}
+use mathlib.Core.Path.{_≡_, refl}
 use mathlib.Core.List.{List}
+use mathlib.Core.Logic.{_⊎_, inl, inr, ⊎-elim}
 use native.Mathlib.Omega.{arith}
 use lib.Dec.{lit≤}
 use Rattle.base.specs.Pick.{pick}
@@ -9,8 +10,10 @@ use Rattle.base.specs.Strings.{sameAt}
 use Rattle.base.proofs.Steps.{cond-all}
 use Rattle.format.specs.Kdmv.{kdmvFields, kdmvFault}
 use Rattle.format.specs.Cowd.{cowdMagic, cowdFields, cowdFault}
-use Rattle.format.specs.Header.{unlessFault, withFooter, judgeKdmv, judgeCowd, judge, judgeKdmvStart, judgeStart}
+use Rattle.format.specs.Header.{unlessFault, withFooter, judgeKdmv, judgeCowd, judgeOf, judge, judgeKdmvStart, judgeStart}
 use Rattle.format.specs.Answers.{number}
+use Rattle.format.specs.declared.Taken.{Taken}
+use Rattle.format.specs.declared.Taken.the-variants.{KdmvAlone}
 use Rattle.format.specs.declared.KdmvFields.{KdmvFields}
 use Rattle.format.specs.declared.CowdFields.{CowdFields}
 use Rattle.format.specs.declared.Fault.{Fault}
@@ -24,16 +27,19 @@ abbrev EarlyFault : Fault → Type 0
 EarlyFault None = Unit
 EarlyFault (Found r) = number r ≤ 6
 
--- refused with no number over n
+-- no number over n but 43
+abbrev pub Early : ℕ → Refusal → Type 0
+Early n r = (number r ≤ n) ⊎ (number r ≡ 43)
+
 abbrev EarlyHeader : ℕ → HeaderAnswer → Type 0
 EarlyHeader n (Known h) = Unit
-EarlyHeader n (unknown r) = number r ≤ n
+EarlyHeader n (unknown r) = Early n r
 
 early-fault : (n : ℕ) → 6 ≤ n → (f : Fault) (a : HeaderAnswer) → EarlyFault f → EarlyHeader n a
     → EarlyHeader n (unlessFault f a)
 unfolding unlessFault
 early-fault n b None a e k = k
-early-fault n b (Found r) a e k = omega arith
+early-fault n b (Found r) a e k = inl (omega arith)
 
 early-kdmv : (k : KdmvFields) → EarlyFault (kdmvFault k)
 unfolding kdmvFault
@@ -50,39 +56,48 @@ early-cowd k =
     (λ b. cond-all EarlyFault _ _ _ (λ d. lit≤ tt) (λ d. cond-all EarlyFault _ _ _ (λ e. lit≤ tt) (λ e. tt)))
 
 module _ (s : List ℕ) where
-  early-other : (n : ℕ) → 6 ≤ n → EarlyHeader n (pick (sameAt s 0 cowdMagic) (judgeCowd s) (unknown Magic))
+  early-other : (taken : Taken) (n : ℕ) → 6 ≤ n
+      → EarlyHeader n (pick (sameAt s 0 cowdMagic) (judgeCowd taken s) (unknown Magic))
   unfolding judgeCowd
-  early-other n b =
+  early-other taken n b =
       cond-all (EarlyHeader n) _ _ _
       (λ m.
-      cond-all (EarlyHeader n) _ _ _ (λ d. omega arith) (λ d. early-fault n b _ _ (early-cowd (cowdFields s)) tt))
-      (λ m. omega arith)
+      cond-all (EarlyHeader n) _ _ _ (λ d. inl (omega arith))
+      (λ d. cond-all (EarlyHeader n) _ _ _ (λ g. inr refl) (λ g. early-fault n b _ _ (early-cowd (cowdFields s)) tt)))
+      (λ m. inl (omega arith))
 
-  early-judge : EarlyHeader 7 (judge s)
-  unfolding judge judgeKdmv withFooter
-  early-judge =
-      cond-all (EarlyHeader 7) _ _ _ (λ b. lit≤ tt)
+  early-judge : (taken : Taken) → EarlyHeader 7 (judgeOf taken s)
+  unfolding judgeOf judgeKdmv withFooter
+  early-judge taken =
+      cond-all (EarlyHeader 7) _ _ _ (λ b. inl (lit≤ tt))
       (λ b.
       cond-all (EarlyHeader 7) _ _ _
       (λ m.
-      cond-all (EarlyHeader 7) _ _ _ (λ d. lit≤ tt)
+      cond-all (EarlyHeader 7) _ _ _ (λ d. inl (lit≤ tt))
       (λ d.
       early-fault 7 (lit≤ tt) _ _ (early-kdmv (kdmvFields s))
-      (cond-all (EarlyHeader 7) _ _ _ (λ e. cond-all (EarlyHeader 7) _ _ _ (λ g. lit≤ tt) (λ g. tt)) (λ e. tt))))
-      (λ n. early-other 7 (lit≤ tt)))
+      (cond-all (EarlyHeader 7) _ _ _ (λ e. cond-all (EarlyHeader 7) _ _ _ (λ g. inl (lit≤ tt)) (λ g. tt)) (λ e. tt))))
+      (λ n. early-other taken 7 (lit≤ tt)))
 
   early-start : EarlyHeader 6 (judgeStart s)
   unfolding judgeStart judgeKdmvStart
   early-start =
-      cond-all (EarlyHeader 6) _ _ _ (λ b. lit≤ tt)
+      cond-all (EarlyHeader 6) _ _ _ (λ b. inl (lit≤ tt))
       (λ b.
       cond-all (EarlyHeader 6) _ _ _
       (λ m.
-      cond-all (EarlyHeader 6) _ _ _ (λ d. lit≤ tt) (λ d. early-fault 6 (lit≤ tt) _ _ (early-kdmv (kdmvFields s)) tt))
-      (λ n. early-other 6 (lit≤ tt)))
+      cond-all (EarlyHeader 6) _ _ _ (λ d. inl (lit≤ tt)) (λ d. early-fault 6 (lit≤ tt) _ _ (early-kdmv (kdmvFields s)) tt))
+      (λ n. early-other KdmvAlone 6 (lit≤ tt)))
 
-  pub judge-refuses : (r : Refusal) → judge s ≡ unknown r → number r ≤ 7
-  judge-refuses r e = rw e at early-judge
+  pub taken-refuses : (taken : Taken) (r : Refusal) → judgeOf taken s ≡ unknown r → Early 7 r
+  taken-refuses taken r e = rw e at (early-judge taken)
 
-  pub start-refuses : (r : Refusal) → judgeStart s ≡ unknown r → number r ≤ 6
+  -- so with none of the numbers between
+  pub not-between : (r : Refusal) → Early 7 r → (n : ℕ) → 8 ≤ n → n ≤ 42 → number r ≡ n → ⊥
+  not-between r e n low high q = ⊎-elim (λ l. omega arith) (λ l. omega arith) e
+
+  pub judge-refuses : (r : Refusal) → judge s ≡ unknown r → (n : ℕ) → 8 ≤ n → n ≤ 42 → number r ≡ n → ⊥
+  judge-refuses r e = not-between r (taken-refuses KdmvAlone r e)
+
+  pub start-refuses : (r : Refusal) → judgeStart s ≡ unknown r → Early 6 r
   start-refuses r e = rw e at early-start

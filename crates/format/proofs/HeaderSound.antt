@@ -7,13 +7,15 @@ use native.Mathlib.Omega.{arith}
 use lib.Dec.{lit≤}
 use Rattle.format.specs.Kdmv.{kdmvFields}
 use Rattle.format.specs.Cowd.{cowdFields}
-use Rattle.format.specs.Header.{kdmvHeader, cowdHeader, kdmvHeaderOf, cowdHeaderOf, directoryEntriesOf, judge}
+use Rattle.format.specs.Header.{kdmvHeader, cowdHeader, kdmvHeaderOf, cowdHeaderOf, directoryEntriesOf, judgeOf, judge}
 use Rattle.format.specs.Accepted.{KdmvRules, CowdRules}
 use Rattle.format.specs.Judged.{Sound}
+use Rattle.format.specs.declared.Taken.{Taken}
+use Rattle.format.specs.declared.Taken.the-variants.{KdmvAlone}
 use Rattle.format.specs.declared.Header.{Header}
 use Rattle.format.specs.declared.HeaderAnswer.the-variants.{Known}
 use Rattle.format.proofs.Geometry.{directory-room}
-use Rattle.format.proofs.HeaderJudged.{judged-rules}
+use Rattle.format.proofs.HeaderJudged.{taken-rules}
 
 module _ (s : List ℕ) where
   kdmv-sound : KdmvRules s (kdmvFields s) → Sound (kdmvHeaderOf s)
@@ -38,5 +40,9 @@ module _ (s : List ℕ) where
     directory = omega (arith, r .storedCount, directory-room (cowdFields s .«directory_entries»));
   }
 
+  pub taken-sound : (taken : Taken) (h : Header) → judgeOf taken s ≡ Known h → Sound h
+  taken-sound taken h e =
+      ⊎-elim (λ r. rw (r .1) (kdmv-sound (r .0))) (λ r. rw (r .2) (cowd-sound (r .1))) (taken-rules s taken h e)
+
   pub sound-of : (h : Header) → judge s ≡ Known h → Sound h
-  sound-of h e = ⊎-elim (λ r. rw (r .1) (kdmv-sound (r .0))) (λ r. rw (r .1) (cowd-sound (r .0))) (judged-rules s h e)
+  sound-of h e = taken-sound KdmvAlone h e

@@ -1,4 +1,4 @@
--- A start that is not refused 1 to 6 and is no COWD image: what is known of its header.
+-- A start that is not refused 1 to 6 and 43: what is known of its header.
 use Prim.Native.Nat.{ℕ, _*_, _≤_}
 use mathlib.Core.Path.{_≡_, refl, sym, ap, _∙_}
 use mathlib.Core.List.{List}
@@ -15,9 +15,10 @@ use Rattle.base.proofs.Rounding.{ceil-most}
 use Rattle.format.specs.Geometry.{directoryEntries, directorySectors}
 use Rattle.format.specs.Kdmv.{kdmvMagic, kdmvFields, versionBroken, newlineBroken, flagsBroken, capacityBroken}
 use Rattle.format.specs.Kdmv.{grainSizeBroken, kdmvSizesBroken, kdmvFault}
-use Rattle.format.specs.Cowd.{cowdMagic, cowdFields, cowdFault}
-use Rattle.format.specs.Header.{kdmvHeader, cowdHeader, startOf, judgeKdmvStart, judgeCowd, judgeStart}
+use Rattle.format.specs.Cowd.{cowdMagic}
+use Rattle.format.specs.Header.{kdmvHeader, startOf, judgeKdmvStart, kindGone, judgeCowd, judgeStart}
 use Rattle.format.specs.Accepted.{Capacity, GrainSize}
+use Rattle.format.specs.declared.Taken.the-variants.{KdmvAlone}
 use Rattle.format.specs.declared.KdmvFields.{KdmvFields}
 use Rattle.format.specs.declared.Header.{Header}
 use Rattle.format.specs.declared.Fault.the-variants.{None}
@@ -41,23 +42,21 @@ module _ (s : List ℕ) (h : Header) where
       let b = known-fault (kdmvFault (kdmvFields s)) _ h (a .1) in
       record { long = ltb-false _ _ (a .0); magic = m; kept = b .0; is = sym (known-same _ h (b .1)) }
 
-  no-cowd : judgeCowd s ≡ Known h → h .cowd ≡ true
-  unfolding judgeCowd cowdHeader
+  no-cowd : judgeCowd KdmvAlone s ≡ Known h → ⊥
+  unfolding judgeCowd kindGone
   no-cowd e =
-      let a = known-past (ltb (length s) 2048) _ _ h e in
-      let b = known-fault (cowdFault (cowdFields s)) _ h (a .1) in
-      ap (λ (k : Header). k .cowd) (sym (known-same _ h (b .1)))
+      let a = known-past (ltb (length s) 2048) _ _ h e in true≢false (known-past (kindGone KdmvAlone) _ _ h (a .1) .0)
 
-  pub started : judgeStart s ≡ Known h → h .cowd ≡ false → Started s h
+  pub started : judgeStart s ≡ Known h → Started s h
   unfolding judgeStart
-  started e k =
+  started e =
       let a = known-past (ltb (length s) 4) _ _ h e in
       ⊎-elim
       (λ m. kdmv-started m (sym (pick-then (sameAt s 0 kdmvMagic) _ _ m) ∙ a .1))
       (λ n.
-      let b : pick (sameAt s 0 cowdMagic) (judgeCowd s) (Refused Magic) ≡ Known h =
+      let b : pick (sameAt s 0 cowdMagic) (judgeCowd KdmvAlone s) (Refused Magic) ≡ Known h =
       sym (pick-else (sameAt s 0 kdmvMagic) _ _ n) ∙ a .1 in
-      ⊎-elim (λ c. absurd (true≢false (sym (no-cowd (sym (pick-then (sameAt s 0 cowdMagic) _ _ c) ∙ b)) ∙ k)))
+      ⊎-elim (λ c. absurd (no-cowd (sym (pick-then (sameAt s 0 cowdMagic) _ _ c) ∙ b)))
       (λ m. let q : Refused Magic ≡ Known h = sym (pick-else (sameAt s 0 cowdMagic) _ _ m)
       ∙ b in let z : _≡_ {A = ℕ} 0 1 = cc in absurd (omega arith))
       (true-or-false (sameAt s 0 cowdMagic)))

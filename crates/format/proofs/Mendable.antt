@@ -4,7 +4,6 @@ use Prim.Native.Nat.{ℕ, _+_, _-_, _/_, _≤_, _<_}
 use mathlib.Core.Path.{_≡_, refl, sym, ap, _∙_}
 use mathlib.Core.List.{List, _++_}
 use mathlib.Core.Bool.{true, false, true≢false}
-use mathlib.Core.Logic.{⊎-elim}
 use native.Mathlib.Omega.{arith}
 use lib.ListN.{getD}
 use Rattle.base.specs.Bytes.{SameBytes}
@@ -12,7 +11,7 @@ use Rattle.base.specs.Pick.{pick}
 use Rattle.base.specs.Strings.{sameAt}
 use Rattle.format.specs.Geometry.{fileSectors}
 use Rattle.format.specs.Kdmv.{kdmvMagic, kdmvFields, atEnd, lastAt}
-use Rattle.format.specs.Header.{kdmvHeader, cowdHeader, kdmvHeaderOf, directoryEntriesOf, judge}
+use Rattle.format.specs.Header.{kdmvHeader, kdmvHeaderOf, directoryEntriesOf, judge}
 use Rattle.format.specs.Areas.{Area, area, headerArea, directoryArea, redundantArea, primaryTables}
 use Rattle.format.specs.Areas.{redundantTables, footerArea, areas, runsPast, holders, Apart, meet}
 use Rattle.format.specs.Accepted.{KdmvRules}
@@ -20,6 +19,7 @@ use Rattle.format.specs.Check.{misplaced, copiesDiffer, unlessGrain, che
 use Rattle.format.specs.Check.{lowestPast, checkFrom, check}
 use Rattle.format.specs.Mend.{fromGood, goodEntry, otherEntry, kindsDiffer, areasKeptApart, isRefused}
 use Rattle.format.specs.Judged.{Placed, Sided}
+use Rattle.format.specs.declared.Taken.the-variants.{KdmvAlone}
 use Rattle.format.specs.declared.Header.{Header}
 use Rattle.format.specs.declared.Side.{Side}
 use Rattle.format.specs.declared.Side.the-variants.{Primary, Redundant}
@@ -28,7 +28,7 @@ use Rattle.format.specs.declared.HeaderAnswer.the-variants.{Known}
 use Rattle.format.specs.declared.CheckAnswer.{CheckAnswer}
 use Rattle.format.specs.declared.CheckAnswer.the-variants.{Accepted, Refused}
 use Rattle.format.proofs.Areas.{holders-append, meet-apart, apart-meet}
-use Rattle.format.proofs.Filed.{judged-front, inside-all}
+use Rattle.format.proofs.Filed.{taken-front, inside-all}
 use Rattle.format.proofs.FromGood.{back, placed-from, places-from, two-from}
 use Rattle.format.proofs.Held.{held-one, held-there}
 use Rattle.format.proofs.HeaderJudged.{judged-rules, judged-header}
@@ -91,7 +91,7 @@ module _ (s : List ℕ) (g : Header) (z : Sided s g) where
   -- where no grain is past F, all areas lie in the file
   pub sided-inside : lowestPast s g ≡ None → runsPast (fileSectors s) (areas s g) ≡ false
   sided-inside none =
-      let front = judged-front s (z .header) (z .judged) in
+      let front = taken-front s (z .header) KdmvAlone (z .judged) in
       let sectors : g .«header_sectors» ≡ z .header .«header_sectors» = rw (z .is) (same-sectors (z .side) (z .header)) in
       let footer : g .footer ≡ z .header .footer = rw (z .is) (same-footer (z .side) (z .header)) in
       in-groups s g
@@ -101,11 +101,8 @@ module _ (s : List ℕ) (g : Header) (z : Sided s g) where
   turned : z .header ≡ fromGood (z .side) g
   turned = back (z .side) (z .header) ∙ ap (fromGood (z .side)) (sym (z .is))
 
-  -- COWD has no redundant directory
   kdmv : (KdmvRules s (kdmvFields s)) × (z .header ≡ kdmvHeaderOf s)
-  unfolding cowdHeader
-  kdmv =
-      ⊎-elim (λ r. r) (λ r. absurd (z .two (ap (λ (h : Header). h .redundant) (r .1)))) (judged-rules s (z .header) (z .judged))
+  kdmv = judged-rules s (z .header) (z .judged)
 
   magic : sameAt s 0 kdmvMagic ≡ true
   unfolding kdmvFields
@@ -133,7 +130,6 @@ module _ (s : List ℕ) (g : Header) (z : Sided s g) where
           head = λ i a b.
               kept i
               (omega (arith, held-one (area 0 (g .«header_sectors»)) (i / 512) (omega arith) (omega (arith, one-sector))));
-          more = λ l n. absurd (true≢false (sym magic ∙ n));
           foot = λ k e i a b.
               kept i
               (omega (

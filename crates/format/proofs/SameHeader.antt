@@ -1,14 +1,13 @@
--- What a header is read from: the first sector, of COWD the first four and, where there is a footer, the last two. Images of
--- one length that agree there have the same header.
+-- What a header is read from: the first sector and, where there is a footer, the last two. Images of one length that agree
+-- there have the same header.
 use Prim.Native.Nat.{ℕ, _+_, _≤_}
-use mathlib.Core.Path.{_≡_, refl, sym, ap, _∙_}
+use mathlib.Core.Path.{_≡_, refl, sym, _∙_}
 use mathlib.Core.List.{List}
 use mathlib.Core.Bool.{true, false, true≢false}
 use native.Mathlib.Omega.{arith}
-use lib.Dec.{ltb}
 use lib.ListN.{length}
-use borrow.Author.Tests.{ltb-false}
 use Rattle.base.specs.Numbers.{leAt}
+use Rattle.base.specs.Pick.{pick}
 use Rattle.base.specs.Strings.{sameAt}
 use Rattle.base.specs.Bytes.{zeros}
 use Rattle.base.proofs.Over.{zeros-length}
@@ -16,17 +15,13 @@ use Rattle.base.proofs.Steps.{pick-both}
 use Rattle.format.specs.Geometry.{fileSectors, bytesAt}
 use Rattle.format.specs.Kdmv.{kdmvMagic, newlineBytes, kdmvFields, atEnd, footerAt, lastAt, footerDirectory, footerBroken}
 use Rattle.format.specs.Cowd.{cowdMagic, cowdFields}
-use Rattle.format.specs.Header.{kdmvHeader, cowdHeader, directoryOf, headerOf, withFooter, judgeKdmv, judgeCowd, judge}
+use Rattle.format.specs.Header.{kdmvHeader, cowdHeader, directoryOf, headerOf, withFooter, judgeKdmv, kindGone, judgeCowd}
+use Rattle.format.specs.Header.{judgeOf, judge}
+use Rattle.format.specs.declared.Taken.the-variants.{KdmvAlone}
 use Rattle.format.specs.declared.Header.{Header}
-use Rattle.format.proofs.Picked.{pick-else}
 use Rattle.format.proofs.BytesAt.{part-long}
 use Rattle.base.specs.Bytes.{SameBytes}
 use Rattle.base.proofs.SameBytes.{within, number-same, string-same, part-same}
-
--- what is no KDMV header has four sectors
-pub four-sectors : (s : List ℕ) → sameAt s 0 kdmvMagic ≡ false → headerOf s .«header_sectors» ≡ 4
-unfolding headerOf cowdHeader
-four-sectors s n = ap (λ (h : Header). h .«header_sectors») (pick-else _ _ _ n)
 
 -- the sizes stand in the first 28 bytes
 pub front-sizes : (s t : List ℕ) → SameBytes s t 0 28
@@ -45,7 +40,6 @@ pub record SameFields (s t : List ℕ) : Type 0 where
   pub long : length s ≡ length t
   pub some : 1 ≤ fileSectors s
   pub head : SameBytes s t 0 512
-  pub more : 2048 ≤ length s → sameAt s 0 kdmvMagic ≡ false → SameBytes s t 0 2048
   pub foot : sameAt s 0 kdmvMagic ≡ true → atEnd (kdmvFields s) ≡ true → SameBytes s t (footerAt s) 512
 
 -- and all that is judged of it
@@ -80,19 +74,6 @@ module _ (s t : List ℕ) (head : SameBytes s t 0 512) where
       )
 
 module _ (s t : List ℕ) (both : SameFields s t) where
-  -- the last field stands in the fourth sector, and counts only where there is one
-  cowd-same : 2048 ≤ length s → sameAt s 0 kdmvMagic ≡ false → cowdFields s ≡ cowdFields t
-  unfolding cowdFields
-  cowd-same l n =
-      rw (
-        number s t (both .head) 4 4 (omega arith),
-        number s t (both .head) 12 4 (omega arith),
-        number s t (both .head) 16 4 (omega arith),
-        number s t (both .head) 20 4 (omega arith),
-        number s t (both .head) 24 4 (omega arith),
-        number-same s t 1648 4 (within s t 0 2048 1648 4 (both .more l n) (omega arith) (omega arith)),
-      )
-
   footer-directory : SameBytes s t (footerAt s) 512 → footerDirectory s ≡ footerDirectory t
   footer-directory foot =
       rw (
@@ -149,14 +130,13 @@ module _ (s t : List ℕ) (all : SameHead s t) where
     unfolding judgeKdmv
     judge-kdmv-same = rw (← both .long, ← kdmv-same s t (both .head), directory-same s t both kdmv, with-footer-same)
 
-  pub judge-cowd-same : sameAt s 0 kdmvMagic ≡ false → judgeCowd s ≡ judgeCowd t
-  unfolding judgeCowd
-  judge-cowd-same n =
-      rw (← both .long)
-      (pick-both _≡_ (ltb (length s) 2048) _ _ _ _ (λ q. refl) (λ q. rw (cowd-same s t both (ltb-false _ _ q) n)))
+  -- COWD is judged by its length alone
+  pub judge-cowd-same : judgeCowd KdmvAlone s ≡ judgeCowd KdmvAlone t
+  unfolding judgeCowd kindGone pick
+  judge-cowd-same = rw (both .long)
 
   pub judge-same : judge s ≡ judge t
-  unfolding judge
+  unfolding judgeOf
   judge-same =
       rw (
         ← both .long,
@@ -166,4 +146,4 @@ module _ (s t : List ℕ) (all : SameHead s t) where
       (pick-both _≡_ _ _ _ _ _ (λ q. refl)
       (λ n.
       pick-both _≡_ (sameAt s 0 kdmvMagic) _ _ _ _ judge-kdmv-same
-      (λ m. pick-both _≡_ (sameAt s 0 cowdMagic) _ _ _ _ (λ c. judge-cowd-same m) (λ c. refl))))
+      (λ m. pick-both _≡_ (sameAt s 0 cowdMagic) _ _ _ _ (λ c. judge-cowd-same) (λ c. refl))))

@@ -87,7 +87,12 @@ pub record AreaRules (s : List ℕ) (h : Header) : Type 0 where
   -- no sector lies in two areas
   pub apart : Apart (areas s h)
 
--- ---- an image of either kind
+-- ---- a KDMV image, which is what every call but the moves takes
+pub record AcceptedKdmv (s : List ℕ) : Type 0 where
+  pub rules : KdmvRules s (kdmvFields s)
+  pub areas : AreaRules s (kdmvHeaderOf s)
+
+-- ---- an image of either kind, for the moves
 pub data Accepted (s : List ℕ) : Type 0 where
   kdmv : KdmvRules s (kdmvFields s) → AreaRules s (kdmvHeaderOf s) → Accepted s
   cowd : CowdRules s (cowdFields s) → AreaRules s (cowdHeaderOf s) → Accepted s

@@ -9,8 +9,8 @@ use Rattle.format.specs.declared.Refusal.{Refusal}
 use Rattle.format.specs.declared.Refusal.the-variants.{TooShort, Magic, Version, Newline, Flags, Sizes, Footer, Misplaced}
 use Rattle.format.specs.declared.Refusal.the-variants.{GrainPast, Marker, CopiesDiffer, SharedSector, SectorPast}
 use Rattle.format.specs.declared.Refusal.the-variants.{TooLittleRoom, LayersDiffer, NotCollapsible, LayerLengths}
-use Rattle.format.specs.declared.Refusal.the-variants.{StillOpen, NotMendable, NotClosable, NotNormal, NotMovable}
-use Rattle.format.specs.declared.Refusal.the-variants.{ProfileSizes}
+use Rattle.format.specs.declared.Refusal.the-variants.{StillOpen, NotMendable, NotClosable, NotNormal, KindGone}
+use Rattle.format.specs.declared.Refusal.the-variants.{NotMovable, ProfileSizes}
 use Rattle.format.specs.declared.Source.{Source}
 use Rattle.format.specs.declared.Source.the-variants.{Absent, Zero, Stored, Packed}
 use Rattle.format.specs.declared.HeaderAnswer.{HeaderAnswer}
@@ -67,6 +67,7 @@ number StillOpen = 27
 number NotMendable = 40
 number NotClosable = 41
 number (NotNormal byte) = 42
+number KindGone = 43
 number NotMovable = 44
 number ProfileSizes = 47
 
@@ -102,11 +103,12 @@ place StillOpen = 0
 place NotMendable = 0
 place NotClosable = 0
 place (NotNormal byte) = byte
+place KindGone = 0
 place NotMovable = 0
 place ProfileSizes = 0
 
--- ---- a header alone: the descriptor's numbers as it has them, 0 for COWD, and of either kind the dirty number. None is judged
--- here: 8 and 27 are no rules of the header
+-- ---- a header alone: the descriptor's numbers and the dirty number as it has them. None is judged here: 8 and 27 are no rules
+-- of the header
 abbrev pub headerNumbers : HeaderAnswer → Head
 headerNumbers (Known h) = record {
   number = 0;

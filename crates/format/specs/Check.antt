@@ -5,7 +5,7 @@ use mathlib.Core.Bool.{Bool, true, false, not, _&&_, _||_}
 use lib.Dec.{eqb}
 use Rattle.base.specs.Pick.{pick}
 use Rattle.format.specs.Geometry.{fileSectors}
-use Rattle.format.specs.Header.{grainsOf, directoryEntriesOf, judge}
+use Rattle.format.specs.Header.{grainsOf, directoryEntriesOf, judgeOf}
 use Rattle.format.specs.Entries.{entryAt, meaningAt, grainEntry, entriesInUse, markerBroken, anyBelow}
 use Rattle.format.specs.Areas.{area, redundantArea, primaryTables, redundantTables, grainArea, areas, endsPast, runsPast}
 use Rattle.format.specs.Areas.{meet}
@@ -17,6 +17,8 @@ use Rattle.format.specs.declared.Lowest.the-variants.{None, Grain}
 use Rattle.format.specs.declared.MisplacedPart.{MisplacedPart}
 use Rattle.format.specs.declared.MisplacedPart.the-variants.{Descriptor, Directory, RedundantDirectory}
 use Rattle.format.specs.declared.MisplacedPart.the-variants.{PrimaryTable, RedundantTable}
+use Rattle.format.specs.declared.Taken.{Taken}
+use Rattle.format.specs.declared.Taken.the-variants.{KdmvAlone}
 use Rattle.format.specs.declared.Refusal.{Refusal}
 use Rattle.format.specs.declared.Refusal.the-variants.{Misplaced, GrainPast, Marker, CopiesDiffer, SharedSector}
 use Rattle.format.specs.declared.HeaderAnswer.{HeaderAnswer}
@@ -135,5 +137,9 @@ unfoldable pub checkFrom : List ℕ → HeaderAnswer → CheckAnswer
 checkFrom s (headerRefused r) = Refused r
 checkFrom s (Known h) = checkLayout s h
 
+abbrev pub checkOf : Taken → List ℕ → CheckAnswer
+checkOf taken s = checkFrom s (judgeOf taken s)
+
+-- every call but the moves takes KDMV alone
 abbrev pub check : List ℕ → CheckAnswer
-check s = checkFrom s (judge s)
+check s = checkOf KdmvAlone s

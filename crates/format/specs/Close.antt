@@ -19,9 +19,9 @@ use Rattle.format.specs.declared.closing.CloseAnswer.{CloseAnswer}
 use Rattle.format.specs.declared.closing.CloseAnswer.the-variants.{Closed, Refused}
 
 -- ---- 41, part by part
--- no KDMV start with directory at end (5 has refused one without flag 0x20000), or one with a redundant directory
+-- no start with directory at end (5 has refused one without flag 0x20000), or one with a redundant directory
 abbrev pub noStream : Header → Bool
-noStream h = h .cowd || (not (h .footer) || not (eqb (h .redundant) 0))
+noStream h = not (h .footer) || not (eqb (h .redundant) 0)
 
 -- over 2^31 sectors; overhead under 2 or past F
 abbrev pub walkMisplaced : List ℕ → Bool
@@ -55,7 +55,7 @@ unfoldable pub closeJudged : List ℕ → ℕ → HeaderAnswer → CloseAnswer
 closeJudged s room (headerRefused r) = Refused r
 closeJudged s room (Known h) = closeFrom s h room
 
--- 1 to 6, 41, 21
+-- 1 to 6 and 43 as the header has them, 41, 21
 abbrev pub close : List ℕ → ℕ → CloseAnswer
 close s room = closeJudged s room (judgeStart s)
 

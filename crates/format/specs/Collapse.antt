@@ -42,9 +42,9 @@ unfoldable pub ifAccepted : CheckAnswer → CollapseAnswer → CollapseAnswer
 ifAccepted (checkRefused r) a = Refused r
 ifAccepted (Accepted capacity grainSize) a = a
 
--- 23: COWD or flag 0x10000
+-- 23: flag 0x10000
 abbrev pub notCollapsible : Header → Bool
-notCollapsible h = h .cowd || h .packed
+notCollapsible h = h .packed
 
 -- 27: the disk was still open, whatever number but 0 says so
 abbrev pub stillOpen : Header → Bool

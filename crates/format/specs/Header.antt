@@ -1,4 +1,4 @@
--- The header of an image of either kind: what it tells, and refusals 1 to 7 in their order.
+-- The header of an image of either kind: what it tells, and refusals 1 to 7 and 43 in their order.
 use Prim.Native.Nat.{ℕ}
 use mathlib.Core.List.{List}
 use mathlib.Core.Bool.{Bool, true, false, _&&_, _||_}
@@ -14,7 +14,9 @@ use Rattle.format.specs.declared.CowdFields.{CowdFields}
 use Rattle.format.specs.declared.Header.{Header}
 use Rattle.format.specs.declared.Fault.{Fault}
 use Rattle.format.specs.declared.Fault.the-variants.{None, Found}
-use Rattle.format.specs.declared.Refusal.the-variants.{TooShort, Magic, Footer}
+use Rattle.format.specs.declared.Refusal.the-variants.{TooShort, Magic, Footer, KindGone}
+use Rattle.format.specs.declared.Taken.{Taken}
+use Rattle.format.specs.declared.Taken.the-variants.{KdmvAlone, Either}
 use Rattle.format.specs.declared.HeaderAnswer.{HeaderAnswer}
 use Rattle.format.specs.declared.HeaderAnswer.the-variants.{Known, Refused}
 
@@ -75,7 +77,7 @@ kdmvHeaderOf s = kdmvHeader (kdmvFields s) (directoryOf s (kdmvFields s))
 abbrev pub cowdHeaderOf : List ℕ → Header
 cowdHeaderOf s = cowdHeader (cowdFields s)
 
--- the header that `judge` gives, where it gives one; elsewhere it has no meaning
+-- the header that judging gives, where it gives one; elsewhere it has no meaning
 unfoldable pub headerOf : List ℕ → Header
 headerOf s = pick (sameAt s 0 kdmvMagic) (kdmvHeaderOf s) (cowdHeaderOf s)
 
@@ -86,7 +88,7 @@ grainsOf h = grains (h .capacity) (h .«grain_size»)
 abbrev pub directoryEntriesOf : Header → ℕ
 directoryEntriesOf h = directoryEntries (h .capacity) (h .«entries_per_table») (h .«grain_size»)
 
--- ---- the order of refusals: 1, 2, then by kind
+-- ---- the order of refusals: 1, 2, then by kind. A COWD image is 43 after 1, where its kind is not taken
 unfoldable pub unlessFault : Fault → HeaderAnswer → HeaderAnswer
 unlessFault None a = a
 unlessFault (Found r) a = Refused r
@@ -100,13 +102,23 @@ judgeKdmv s =
     pick (ltb (length s) 512) (Refused TooShort)
     (unlessFault (kdmvFault (kdmvFields s)) (withFooter s (atEnd (kdmvFields s)) (kdmvHeaderOf s)))
 
-unfoldable pub judgeCowd : List ℕ → HeaderAnswer
-judgeCowd s = pick (ltb (length s) 2048) (Refused TooShort) (unlessFault (cowdFault (cowdFields s)) (Known (cowdHeaderOf s)))
+unfoldable pub kindGone : Taken → Bool
+kindGone KdmvAlone = true
+kindGone Either = false
 
-unfoldable pub judge : List ℕ → HeaderAnswer
-judge s =
+unfoldable pub judgeCowd : Taken → List ℕ → HeaderAnswer
+judgeCowd taken s =
+    pick (ltb (length s) 2048) (Refused TooShort)
+    (pick (kindGone taken) (Refused KindGone) (unlessFault (cowdFault (cowdFields s)) (Known (cowdHeaderOf s))))
+
+unfoldable pub judgeOf : Taken → List ℕ → HeaderAnswer
+judgeOf taken s =
     pick (ltb (length s) 4) (Refused TooShort)
-    (pick (sameAt s 0 kdmvMagic) (judgeKdmv s) (pick (sameAt s 0 cowdMagic) (judgeCowd s) (Refused Magic)))
+    (pick (sameAt s 0 kdmvMagic) (judgeKdmv s) (pick (sameAt s 0 cowdMagic) (judgeCowd taken s) (Refused Magic)))
+
+-- every call but the moves takes KDMV alone
+abbrev pub judge : List ℕ → HeaderAnswer
+judge s = judgeOf KdmvAlone s
 
 -- ---- a start (request A12), which has no footer yet: 7 is not judged, and the directory sector is as sector 0 has it
 abbrev pub startOf : List ℕ → Header
@@ -118,4 +130,4 @@ judgeKdmvStart s = pick (ltb (length s) 512) (Refused TooShort) (unlessFault (kd
 unfoldable pub judgeStart : List ℕ → HeaderAnswer
 judgeStart s =
     pick (ltb (length s) 4) (Refused TooShort)
-    (pick (sameAt s 0 kdmvMagic) (judgeKdmvStart s) (pick (sameAt s 0 cowdMagic) (judgeCowd s) (Refused Magic)))
+    (pick (sameAt s 0 kdmvMagic) (judgeKdmvStart s) (pick (sameAt s 0 cowdMagic) (judgeCowd KdmvAlone s) (Refused Magic)))

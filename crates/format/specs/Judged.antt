@@ -4,10 +4,11 @@ use Prim.Native.Nat.{ℕ, _*_, _≤_}
 use mathlib.Core.Path.{_≡_}
 use mathlib.Core.List.{List}
 use mathlib.Core.Bool.{false}
-use Rattle.format.specs.Header.{directoryEntriesOf, judge}
+use Rattle.format.specs.Header.{directoryEntriesOf, judgeOf, judge}
 use Rattle.format.specs.Areas.{areas, meet}
-use Rattle.format.specs.Check.{misplaced, lowestPast, lowestBadMarker, copiesDiffer, checkApart, check}
+use Rattle.format.specs.Check.{misplaced, lowestPast, lowestBadMarker, copiesDiffer, checkApart, checkOf}
 use Rattle.format.specs.Mend.{fromGood}
+use Rattle.format.specs.declared.Taken.{Taken}
 use Rattle.format.specs.declared.Header.{Header}
 use Rattle.format.specs.declared.Side.{Side}
 use Rattle.format.specs.declared.Lowest.the-variants.{None}
@@ -48,10 +49,10 @@ pub record Filed (s : List ℕ) (h : Header) : Type 0 where
   pub none : lowestPast s h ≡ None
 
 -- 1 to 11: nothing but 12 is left of the check
-pub record Unmarked (s : List ℕ) (h : Header) : Type 0 where
-  pub judged : judge s ≡ Known h
+pub record Unmarked (taken : Taken) (s : List ℕ) (h : Header) : Type 0 where
+  pub judged : judgeOf taken s ≡ Known h
   pub filed : Filed s h
-  pub left : check s ≡ checkApart s h
+  pub left : checkOf taken s ≡ checkApart s h
 
 -- 8 to 12, where the check accepts with capacity c and grain size g
 pub record Passed (s : List ℕ) (h : Header) (c g : ℕ) : Type 0 where

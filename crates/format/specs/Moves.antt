@@ -7,10 +7,11 @@ use lib.ListN.{length}
 use Rattle.base.specs.Pick.{pick}
 use Rattle.format.specs.Header.{grainsOf, headerOf}
 use Rattle.format.specs.Entries.{grainEntry, anyBelow}
-use Rattle.format.specs.Check.{check}
+use Rattle.format.specs.Check.{checkOf}
 use Rattle.format.specs.Grains.{Map}
 use Rattle.format.specs.Layout.{layoutAs, lengthAs}
 use Rattle.format.specs.Collapse.{mapOf, ifAccepted, stillOpen, writtenIfRoom, output}
+use Rattle.format.specs.declared.Taken.the-variants.{Either}
 use Rattle.format.specs.declared.Kind.{Kind}
 use Rattle.format.specs.declared.Kind.the-variants.{Kdmv, Cowd}
 use Rattle.format.specs.declared.Header.{Header}
@@ -67,9 +68,9 @@ moveFrom kind s h m room =
     (pick (stillOpen h) (Refused StillOpen)
     (pick (notMovable kind s h) (Refused NotMovable) (writtenIfRoom room (laidLengthAs kind h m))))
 
--- the image's check, 23, 27, 44, 21
+-- the image's check, which here takes either kind, 23, 27, 44, 21
 abbrev pub moveTo : Kind → List ℕ → ℕ → CollapseAnswer
-moveTo kind s room = ifAccepted (check s) (moveFrom kind s (headerOf s) (mapOf s) room)
+moveTo kind s room = ifAccepted (checkOf Either s) (moveFrom kind s (headerOf s) (mapOf s) room)
 
 -- ---- the output: the image from its start on, and what it held past that; on a refusal all that it held
 abbrev pub moveOutput : Kind → List ℕ → List ℕ → List ℕ

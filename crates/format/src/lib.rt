@@ -60,7 +60,7 @@ pub enum MisplacedPart {
     RedundantTable,
 }
 
-// Why a call on images refuses, in the order of its numbers: 1 to 12, 20 to 24, 27, 40 to 42, 44, 47. A case holds the part,
+// Why a call on images refuses, in the order of its numbers: 1 to 12, 20 to 24, 27, 40 to 44, 47. A case holds the part,
 // the grain or the byte that is its place.
 pub enum Refusal {
     TooShort,
@@ -84,6 +84,7 @@ pub enum Refusal {
     NotMendable,
     NotClosable,
     NotNormal(u64),
+    KindGone,
     NotMovable,
     ProfileSizes,
 }
@@ -92,6 +93,12 @@ pub enum Refusal {
 pub enum Kind {
     Kdmv,
     Cowd,
+}
+
+// Images of which kinds a call takes. Only the moves take COWD.
+pub enum Taken {
+    KdmvAlone,
+    Either,
 }
 
 // Whose tables are good where the two directories' tables differ.

@@ -8,7 +8,7 @@ use borrow.Author.Tests.{le-ltb}
 use Rattle.base.specs.Pick.{pick}
 use Rattle.base.specs.Strings.{sameAt}
 use Rattle.format.specs.Kdmv.{kdmvMagic}
-use Rattle.format.specs.Header.{headerOf, judge, judgeStart}
+use Rattle.format.specs.Header.{headerOf, judgeOf, judge, judgeStart}
 use Rattle.format.specs.Judged.{Sound}
 use Rattle.format.specs.declared.Header.{Header}
 use Rattle.format.specs.declared.HeaderAnswer.{HeaderAnswer}
@@ -26,5 +26,5 @@ module _ (a : HeaderAnswer) (s : List ℕ) (h : Header) (e : a ≡ judge s) (q :
 -- of a start that is no KDMV image all that is judged of an image is
 pub not-kdmv : {b : Bool} (a : HeaderAnswer) (s : List ℕ) → a ≡ judge s → 4 ≤ length s → b ≡ sameAt s 0 kdmvMagic → b ≡ false
     → a ≡ judgeStart s
-unfolding judge judgeStart pick
+unfolding judgeOf judgeStart pick
 not-kdmv a s e long q n = e ∙ rw (le-ltb (length s) 4 long, ← q, n)

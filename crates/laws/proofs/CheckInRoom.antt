@@ -22,6 +22,7 @@ use Rattle.format.specs.Check.{checkApart, check}
 use Rattle.format.specs.CheckIn.{wordsNeeded, sectorsOf, cameToMarking, checkInRoom, withMarked, checkIn}
 use Rattle.format.specs.CheckIn.{listAfterCheck}
 use Rattle.format.specs.Answers.{number}
+use Rattle.format.specs.declared.Taken.the-variants.{KdmvAlone}
 use Rattle.format.specs.declared.Refusal.{Refusal}
 use Rattle.format.specs.declared.Refusal.the-variants.{SharedSector, TooLittleRoom}
 use Rattle.format.specs.declared.CheckAnswer.{CheckAnswer}
@@ -49,7 +50,7 @@ shared-meet : (s : List ℕ) → cameToMarking (check s) ≡ true → check s �
     → meet (areas s (headerOf s)) ≡ true
 unfolding checkApart pick
 shared-meet s c e =
-    let u = unmarked-of s c in
+    let u = unmarked-of KdmvAlone s c in
     ⊎-elim (λ y. y) (λ n. let other = rw n at (sym (u .left) ∙ e) in let z : _≡_ {A = ℕ} 0 1 = cc in absurd (omega arith))
     (true-or-false (meet (areas s (headerOf s))))
 
@@ -72,7 +73,7 @@ module _ (s : List ℕ) (room : ℕ) where
   unfolding checkInRoom withMarked pick
   refused-short e =
       ⊎-elim (λ y. let b = and-yes (cameToMarking (check s)) (ltb room (wordsNeeded s)) y in (b .0, ltb-true _ _ (b .1)))
-      (λ n. absurd (omega (arith, check-refuses s TooLittleRoom (rw n at e))))
+      (λ n. absurd (⊎-elim (λ l. omega arith) (λ l. omega arith) (check-refuses s TooLittleRoom (rw n at e))))
       (true-or-false short)
 
   -- elsewhere the plain check's answer
@@ -101,9 +102,9 @@ module _ (s : List ℕ) (room : ℕ) where
   unfolding withMarked
   number-most =
       cond-all (λ n. n ≤ fileSectors s) (cameToMarking (checkInRoom s room)) _ _
-      (λ y. let u = unmarked-of s (came-plain y .1) in
+      (λ y. let u = unmarked-of KdmvAlone s (came-plain y .1) in
       marked-most (fileSectors s) (areas s (headerOf s))
-      (all-in-file s (headerOf s) (u .judged) (u .filed .placed .kept) (u .filed .none)))
+      (all-in-file s (headerOf s) KdmvAlone (u .judged) (u .filed .placed .kept) (u .filed .none)))
       (λ n. omega arith)
 
   -- after acceptance all areas are counted

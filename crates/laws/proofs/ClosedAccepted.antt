@@ -17,8 +17,7 @@ use Rattle.format.specs.Areas.{Area, area, ifThere, named, headerArea, descript
 use Rattle.format.specs.Areas.{primaryTables, redundantTables, footerArea, lastArea, grainArea, grainAreas, areas, runsPast}
 use Rattle.format.specs.Areas.{holders, Apart}
 use Rattle.format.specs.Check.{check}
-use Rattle.format.specs.Accepted.{AreaRules, Accepted}
-use Rattle.format.specs.Accepted.Accepted.{kdmv}
+use Rattle.format.specs.Accepted.{AreaRules, AcceptedKdmv}
 use Rattle.format.specs.Stream.{overhead, keptGrains, keptSectors}
 use Rattle.format.specs.Tail.{keptEntry, newTables, newDirectoryEntry}
 use Rattle.format.specs.Close.{closedImage}
@@ -213,11 +212,11 @@ module _ (s : List ℕ) (z : Closing s) where
         apart = areas-apart;
       }
 
-  pub image-accepted : Accepted (closedImage s)
-  image-accepted = kdmv (closed-rules s z) (rw (kdmv-closed s z) area-rules)
+  pub image-accepted : AcceptedKdmv (closedImage s)
+  image-accepted = record { rules = closed-rules s z; areas = rw (kdmv-closed s z) area-rules }
 
 -- every layout rule holds
-pub closed-meets : (s : List ℕ) → Closable s → Accepted (closedImage s)
+pub closed-meets : (s : List ℕ) → Closable s → AcceptedKdmv (closedImage s)
 closed-meets s c = image-accepted s (closing s c)
 
 -- kept part and tail together are accepted, with the start's capacity and grain size

@@ -29,7 +29,7 @@ use Rattle.format.specs.declared.HeaderAnswer.the-variants.{Known, Refused as u
 use Rattle.format.specs.declared.CheckAnswer.the-variants.{Accepted}
 use Rattle.format.specs.declared.closing.CloseAnswer.{CloseAnswer}
 use Rattle.format.specs.declared.closing.CloseAnswer.the-variants.{Closed, Refused}
-use Rattle.format.proofs.HeaderRefusals.{start-refuses}
+use Rattle.format.proofs.HeaderRefusals.{Early, start-refuses}
 use Rattle.format.proofs.HeaderStart.{started}
 use Rattle.format.proofs.Picked.{passed, pick-else}
 use Rattle.format.proofs.TailLengths.{tail-length}
@@ -54,7 +54,7 @@ closed-known s room n g t (Known h) e = (h, refl, e)
 -- ---- which refusals there are
 abbrev Given : CloseAnswer → Type 0
 Given (Closed n g t) = Unit
-Given (Refused r) = (number r ≤ 6) ⊎ ((r ≡ NotClosable) ⊎ (r ≡ TooLittleRoom))
+Given (Refused r) = Early 6 r ⊎ ((r ≡ NotClosable) ⊎ (r ≡ TooLittleRoom))
 
 refused-from : (s : List ℕ) (room : ℕ) (a : HeaderAnswer) → judgeStart s ≡ a → Given (closeJudged s room a)
 unfolding closeJudged closeFrom
@@ -76,9 +76,7 @@ module _ (s : List ℕ) where
       let a = closed-past (notClosable s h) _ _ n g t (k .2) in
       let b = closed-past (ltb room (tailLength s h)) _ _ n g t (a .1) in
       let q = same-numbers _ _ _ n g t (b .1) in
-      let d = or-no (noStream h) _ (a .0) in
-      let f = or-no (h .cowd) _ (d .0) in
-      let is = started s h (k .1) (f .0) .is in
+      let is = started s h (k .1) .is in
       let c : Closable s = record { known = rw is at (k .1); closable = rw is at (a .0) } in
       let r = ltb-false room (tailLength s h) (b .0) in
       record {
@@ -89,9 +87,9 @@ module _ (s : List ℕ) where
         fits = omega (arith, q .2, r);
       }
 
-  -- refusals: 1 to 6, 41, 21
+  -- refusals: 1 to 6 and 43, 41, 21
   pub close-refuses : (room : ℕ) (r : Refusal) → close s room ≡ Refused r
-      → (number r ≤ 6) ⊎ ((r ≡ NotClosable) ⊎ (r ≡ TooLittleRoom))
+      → ((number r ≤ 6) ⊎ (number r ≡ 43)) ⊎ ((r ≡ NotClosable) ⊎ (r ≡ TooLittleRoom))
   close-refuses room r e = rw e at (refused-from s room (judgeStart s) refl)
 
   -- and the other way: a start that is not refused 1 to 6 or 41 is closed where the tail has room

@@ -40,13 +40,12 @@ pub closing : (s : List ℕ) → Closable s → Closing s
 unfolding kdmvHeader
 closing s c =
     let a = or-no (noStream (startOf s)) _ (c .closable) in
-    let b = or-no (startOf s .cowd) _ (a .0) in
-    let d = or-no (not (startOf s .footer)) (not (eqb (startOf s .redundant) 0)) (b .1) in
+    let d = or-no (not (startOf s .footer)) (not (eqb (startOf s .redundant) 0)) (a .0) in
     let e = or-no (walkMisplaced s) (descriptorMisplaced (overhead s) (startOf s)) (a .1) in
     let f = or-no (ltb 0x80000000 (fileSectors s)) _ (e .0) in
     let g = or-no (ltb (overhead s) 2) (ltb (fileSectors s) (overhead s)) (f .1) in
     let q = descriptor-kept (overhead s) (startOf s) (e .1) in
-    let t = started s (startOf s) (c .known) (b .0) in
+    let t = started s (startOf s) (c .known) in
     record {
       started = t;
       sizes = started-sizes s (startOf s) t;

@@ -13,6 +13,7 @@ use Rattle.format.specs.Header.{headerOf}
 use Rattle.format.specs.Entries.{grainSectors}
 use Rattle.format.specs.Areas.{named, runsPast}
 use Rattle.format.specs.Accepted.{Accepted}
+use Rattle.format.specs.Accepted.Accepted.{kdmv}
 use Rattle.format.specs.Source.{grainSource, entrySource, sourceOf, sectorLookup}
 use Rattle.format.specs.Grains.{Grain, absent, zeroed, stored, upperUnlessAbsent, clip, grainFrom}
 use Rattle.format.specs.Collapse.{mapOf}
@@ -26,7 +27,7 @@ use Rattle.format.proofs.Inside.{named-in}
 use Rattle.laws.specs.Layers.{Layer}
 use Rattle.laws.specs.Served.{SameSource, absent as sameAbsent, zero as sameZero, stored as sameStored}
 use Rattle.laws.proofs.ServedLookup.{grain-in}
-use Rattle.laws.proofs.ServedSectors.{accepted-good, served}
+use Rattle.laws.proofs.ServedSectors.{either-good, served}
 use Rattle.format.proofs.Grains.{clip-length, clip-below}
 use Rattle.laws.proofs.CollapsedLayers.{layer-accepted, capacity-is, size-is, unpacked}
 
@@ -87,17 +88,19 @@ module _ (s : List ℕ) (c size g o : ℕ) (low : o < size) (below : g * size + 
 pub source-tells : (s : List ℕ) → Accepted s → headerOf s .packed ≡ false → (x : ℕ) → x < headerOf s .capacity
     → Tells s (sourceOf s (headerOf s) x) (sectorIn (x % headerOf s .«grain_size») (mapOf s (x / headerOf s .«grain_size»)))
 source-tells s a plain x low =
-    let good = accepted-good s a in
-    let sound = good .sound in
+    let good = either-good s a in
+    let sound = good .0 in
     let h = headerOf s in
-    let inside = grain-in s h (sound .sizes .low) (sound .some) (good .areas) x low in
+    let inside = grain-in s h (sound .sizes .low) (sound .some) (good .1) x low in
     rw plain
     (entry-tells s (h .capacity) (h .«grain_size») (x / h .«grain_size») (x % h .«grain_size») (mod-lt x (sound .sizes .low))
     (rw div-add-mod' low) _ (rw plain at inside))
 
 pub layer-tells : {c size : ℕ} {s : List ℕ} → Layer c size s → (x : ℕ) → x < c
     → Tells s (sourceOf s (headerOf s) x) (sectorIn (x % size) (mapOf s (x / size)))
-layer-tells {s = s} p x low = rw (← size-is p) (source-tells s (layer-accepted p) (unpacked p) x (rw (capacity-is p) low))
+layer-tells {s = s} p x low =
+    let a = layer-accepted p in
+    rw (← size-is p) (source-tells s (kdmv (a .rules) (a .areas)) (unpacked p) x (rw (capacity-is p) low))
 
 -- ---- the lookup finds what the map says
 pub record Looked (s : List ℕ) (x : ℕ) (g : Grain) : Type 0 where

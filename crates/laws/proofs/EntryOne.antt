@@ -3,15 +3,14 @@ use Prim.Native.Nat.{ℕ, _/_, _%_, _<_}
 use mathlib.Core.Path.{_≡_, refl, sym, ap, _∙_}
 use mathlib.Core.List.{List}
 use mathlib.Core.Bool.{Bool, true, false}
-use mathlib.Core.Logic.{⊎-elim}
 use native.Mathlib.Omega.{arith}
 use lib.Dec.{eqb}
 use Rattle.base.specs.Pick.{pick}
 use Rattle.base.specs.Numbers.{leAt}
 use Rattle.format.specs.Kdmv.{kdmvFields}
-use Rattle.format.specs.Header.{kdmvOneIsZero, kdmvHeader, cowdHeader, headerOf, judge}
+use Rattle.format.specs.Header.{kdmvOneIsZero, kdmvHeader, headerOf, judge}
 use Rattle.format.specs.Entries.{entryAt, meaning, inTable, meaningAt, entryOfGrain, grainEntry}
-use Rattle.format.specs.Accepted.{Accepted}
+use Rattle.format.specs.Accepted.{AcceptedKdmv}
 use Rattle.format.specs.Source.{grainSource, entrySource, sourceOf, lookupFrom, lookupIn, sectorLookup}
 use Rattle.format.specs.declared.Header.{Header}
 use Rattle.format.specs.declared.Entry.{Entry}
@@ -67,12 +66,10 @@ module _ (s : List ℕ) (h : Header) (sector : h .«one_is_zero» ≡ false) whe
   one-stands g t d e = rw (d, sector, e)
 
 -- ---- images
--- `one_is_zero` of a header that is judged: KDMV's by version and flags, COWD's never
+-- `one_is_zero` of a header that is judged
 judged-sector : (s : List ℕ) (h : Header) → kdmvOneIsZero (kdmvFields s) ≡ false → judge s ≡ Known h → h .«one_is_zero» ≡ false
-unfolding kdmvHeader cowdHeader
-judged-sector s h f e =
-    ⊎-elim (λ r. ap (λ (k : Header). k .«one_is_zero») (r .1) ∙ f) (λ r. ap (λ (k : Header). k .«one_is_zero») (r .1))
-    (judged-rules s h e)
+unfolding kdmvHeader
+judged-sector s h f e = ap (λ (k : Header). k .«one_is_zero») (judged-rules s h e .1) ∙ f
 
 -- what a lookup finds is the source that the entry table gives, also in an image that the check refuses
 found-past : (b : Bool) (r : Refusal) (y : LookupAnswer) (a : Source) → pick b (Refused r) y ≡ Found a → y ≡ Found a
@@ -137,7 +134,7 @@ module _ (s : List ℕ) (h : Header) (x : ℕ) where
   version-one-or-one t a known v d e q = refused-or-one t a known (sector-in-one s v) d e q
 
 -- ---- accepted images: no virtual sector below capacity is refused
-module _ (s : List ℕ) (a : Accepted s) (x : ℕ) (low : x < headerOf s .capacity) where
+module _ (s : List ℕ) (a : AcceptedKdmv s) (x : ℕ) (low : x < headerOf s .capacity) where
   pub one-served : (t : ℕ) → kdmvOneIsZero (kdmvFields s) ≡ false → directoryMeans s (headerOf s) x (Sector t)
       → tableHolds s (headerOf s) x t 1
       → sectorLookup s x ≡ Found (grainSource s (headerOf s .packed) (x % headerOf s .«grain_size») 1)

@@ -8,7 +8,7 @@ use Rattle.base.specs.Bytes.{zeros}
 use Rattle.base.specs.Rows.{rows}
 use Rattle.format.specs.Geometry.{grains, directoryEntries, directorySectors}
 use Rattle.format.specs.Kdmv.{kdmvFields, kdmvFault}
-use Rattle.format.specs.Header.{kdmvHeader, directoryOf, headerOf, unlessFault, withFooter, judgeKdmv, judge}
+use Rattle.format.specs.Header.{kdmvHeader, directoryOf, headerOf, unlessFault, withFooter, judgeKdmv, judgeOf}
 use Rattle.format.specs.Entries.{meaning, inTable, entryOfGrain, grainSectors, anyBelow}
 use Rattle.format.specs.Areas.{ifThere, named, redundantTables, areas, runsPast, shares, sharesAny, meet}
 use Rattle.format.specs.Check.{misplaced, lowestFrom, copiesDiffer, unlessGrain, checkApart, checkCopies, checkGrains}
@@ -17,7 +17,7 @@ use Rattle.laws.specs.Layers.{Layer, endToEnd}
 use Rattle.laws.specs.ExampleLayers.{filled, lower, upper}
 
 pub layers : (Layer 69 8 lower) × (Layer 69 8 upper)
-unfolding endToEnd filled lower upper pick powerUpTo leAt leBytes sameAt zeros rows grains directoryEntries directorySectors kdmvFields kdmvFault kdmvHeader directoryOf headerOf unlessFault withFooter judgeKdmv judge meaning inTable entryOfGrain grainSectors anyBelow ifThere named redundantTables areas runsPast shares sharesAny meet misplaced lowestFrom copiesDiffer unlessGrain checkApart checkCopies checkGrains checkLayout checkFrom
+unfolding endToEnd filled lower upper pick powerUpTo leAt leBytes sameAt zeros rows grains directoryEntries directorySectors kdmvFields kdmvFault kdmvHeader directoryOf headerOf unlessFault withFooter judgeKdmv judgeOf meaning inTable entryOfGrain grainSectors anyBelow ifThere named redundantTables areas runsPast shares sharesAny meet misplaced lowestFrom copiesDiffer unlessGrain checkApart checkCopies checkGrains checkLayout checkFrom
 layers = (
   record { accepted = refl; collapsible = refl; clean = refl },
   record { accepted = refl; collapsible = refl; clean = refl },

@@ -10,7 +10,7 @@ use Rattle.base.specs.Strings.{sameAt}
 use Rattle.base.specs.Bytes.{zeros}
 use Rattle.format.specs.Geometry.{directoryEntries, directorySectors}
 use Rattle.format.specs.Kdmv.{kdmvFields, kdmvFault}
-use Rattle.format.specs.Header.{kdmvHeader, directoryOf, headerOf, unlessFault, withFooter, judgeKdmv, judge}
+use Rattle.format.specs.Header.{kdmvHeader, directoryOf, headerOf, unlessFault, withFooter, judgeKdmv, judgeOf}
 use Rattle.format.specs.Entries.{meaning, anyBelow}
 use Rattle.format.specs.Source.{lookupTable, lookupIn, lookupFrom}
 use Rattle.format.specs.Chain.{lengthsSum, ifKnown, headersDown, unlike, unlessAbsent, walkDown, walk, chainLookup}
@@ -68,7 +68,7 @@ chains =
     ∷ []
 
 pub chains-hold : Hold chains
-unfolding pick powerUpTo leAt leBytes sameAt zeros directoryEntries directorySectors kdmvFields kdmvFault kdmvHeader directoryOf headerOf unlessFault withFooter judgeKdmv judge meaning anyBelow lookupTable lookupIn lookupFrom lengthsSum ifKnown headersDown unlike unlessAbsent walkDown walk chainLookup
+unfolding pick powerUpTo leAt leBytes sameAt zeros directoryEntries directorySectors kdmvFields kdmvFault kdmvHeader directoryOf headerOf unlessFault withFooter judgeKdmv judgeOf meaning anyBelow lookupTable lookupIn lookupFrom lengthsSum ifKnown headersDown unlike unlessAbsent walkDown walk chainLookup
 chains-hold = refl
 
 -- what a layer says of a sector, where the layers below say absent

@@ -13,7 +13,7 @@ use Rattle.base.specs.Bytes.{over, zeros}
 use Rattle.base.specs.Rows.{rows}
 use Rattle.format.specs.Geometry.{grains, directoryEntries, directorySectors}
 use Rattle.format.specs.Kdmv.{kdmvFields, kdmvFault}
-use Rattle.format.specs.Header.{kdmvHeader, directoryOf, headerOf, unlessFault, withFooter, judgeKdmv, judge}
+use Rattle.format.specs.Header.{kdmvHeader, directoryOf, headerOf, unlessFault, withFooter, judgeKdmv, judgeOf, judge}
 use Rattle.format.specs.Entries.{meaning, inTable, entryOfGrain, entriesInUse, grainSectors, markerBroken, anyBelow}
 use Rattle.format.specs.Areas.{Area, area, ifThere, named, headerArea, descriptorArea, directoryArea, redundantArea}
 use Rattle.format.specs.Areas.{primaryTables, redundantTables, footerArea, lastArea, areas, runsPast, shares, sharesAny}
@@ -47,7 +47,7 @@ module _ (first size next nextSize : ℕ) where
       record { multiple = refl; long = omega arith; front = refl; back = refl; last = refl; directory = λ e. omega (arith, e) }
 
   pub packed-known : judge (packed first size next nextSize) ≡ Known (streamHeader 1)
-  unfolding pick powerUpTo leAt leBytes sameAt over zeros directoryEntries directorySectors kdmvFields kdmvFault kdmvHeader directoryOf unlessFault withFooter judgeKdmv judge
+  unfolding pick powerUpTo leAt leBytes sameAt over zeros directoryEntries directorySectors kdmvFields kdmvFault kdmvHeader directoryOf unlessFault withFooter judgeKdmv judgeOf
   packed-known = rw (kept-footer _ footer-kept)
 
   packed-check : check (packed first size next nextSize) ≡ checkLayout (packed first size next nextSize) (streamHeader 1)
@@ -89,7 +89,7 @@ pub copies-checked :
     × (check (with 1544 4 2 doubled) ≡ Accepted 16 8)
     -- 12: grain 1 on the tables and the descriptor
     × (check (with 1540 4 4 (with 3588 4 4 doubled)) ≡ Refused SharedSector)
-unfolding pick powerUpTo leAt leBytes sameAt over zeros rows grains directoryEntries directorySectors kdmvFields kdmvFault kdmvHeader directoryOf unlessFault withFooter judgeKdmv judge meaning inTable entryOfGrain grainSectors anyBelow ifThere named redundantTables areas runsPast shares sharesAny meet misplaced lowestMisplaced lowestFrom copyDiffers copiesDiffer unlessGrain checkApart checkCopies checkGrains checkLayout
+unfolding pick powerUpTo leAt leBytes sameAt over zeros rows grains directoryEntries directorySectors kdmvFields kdmvFault kdmvHeader directoryOf unlessFault withFooter judgeKdmv judgeOf meaning inTable entryOfGrain grainSectors anyBelow ifThere named redundantTables areas runsPast shares sharesAny meet misplaced lowestMisplaced lowestFrom copyDiffers copiesDiffer unlessGrain checkApart checkCopies checkGrains checkLayout
 copies-checked =
     let h = plainHeader 11 1 1 2 in (
       checked doubled h refl,

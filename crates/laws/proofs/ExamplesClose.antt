@@ -14,15 +14,14 @@ use Rattle.base.specs.Rows.{rows}
 use Rattle.base.specs.SumsBelow.{sumBelow}
 use Rattle.format.specs.Geometry.{directoryEntries, directorySectors}
 use Rattle.format.specs.Kdmv.{kdmvFields, kdmvFault}
-use Rattle.format.specs.Cowd.{cowdFields, cowdFault}
-use Rattle.format.specs.Header.{kdmvHeader, cowdHeader, startOf, unlessFault, judgeCowd, judgeKdmvStart, judgeStart}
+use Rattle.format.specs.Header.{kdmvHeader, startOf, unlessFault, kindGone, judgeCowd, judgeKdmvStart, judgeStart}
 use Rattle.format.specs.Entries.{grainSectors}
 use Rattle.format.specs.Check.{check}
 use Rattle.format.specs.Source.{sectorLookup}
 use Rattle.format.specs.Stream.{ifWhole, blockAt, KeptGrain, keptGrain, walkOn, walk, walkFrom, keptGrains, grainsEnd}
 use Rattle.format.specs.Tail.{keptEntry, hasGrains, markerBytes, tableParts, newDirectoryBytes, footerBytes, tailBytes}
 use Rattle.format.specs.Close.{closedImage, closeFrom, closeJudged, close, tailWritten, closeOutput}
-use Rattle.format.specs.declared.Refusal.the-variants.{TooShort, Magic, Version, Flags, TooLittleRoom, NotClosable}
+use Rattle.format.specs.declared.Refusal.the-variants.{TooShort, Magic, Version, Flags, TooLittleRoom, NotClosable, KindGone}
 use Rattle.format.specs.declared.Source.the-variants.{Packed}
 use Rattle.format.specs.declared.CheckAnswer.the-variants.{Accepted}
 use Rattle.format.specs.declared.LookupAnswer.the-variants.{Found}
@@ -116,10 +115,10 @@ pub starts-hold :
     × (close (zeros 4) 2560 ≡ Refused Magic)
     × (close (with 4 4 4 start) 2560 ≡ Refused Version)
     × (close (with 8 4 0x10005 start) 2560 ≡ Refused Flags)
-    -- COWD, and an image whose directory is not at the end
-    × (close smallCowd 2560 ≡ Refused NotClosable)
+    -- COWD is 43; an image whose directory is not at the end 41
+    × (close smallCowd 2560 ≡ Refused KindGone)
     × (close (small 0 0 0 0) 2560 ≡ Refused NotClosable)
-unfolding pick powerUpTo leAt leBytes sameAt over zeros sumBelow directoryEntries directorySectors kdmvFields kdmvFault kdmvHeader cowdFields cowdFault cowdHeader unlessFault judgeCowd judgeKdmvStart judgeStart grainSectors ifWhole blockAt walkOn walk grainsEnd hasGrains closeFrom closeJudged
+unfolding pick powerUpTo leAt leBytes sameAt over zeros sumBelow directoryEntries directorySectors kdmvFields kdmvFault kdmvHeader unlessFault kindGone judgeCowd judgeKdmvStart judgeStart grainSectors ifWhole blockAt walkOn walk grainsEnd hasGrains closeFrom closeJudged
 starts-hold = (refl, refl, refl, refl, refl, refl, refl)
 
 -- ---- the tail: grain 1 is kept at sector 2, and the tail starts at sector 3. Behind their markers the table stands at 4 and

@@ -1,4 +1,4 @@
--- Collapse and normal form: refusals 23, 22, 27 and 21, the output, and the parts of the layout byte by byte.
+-- Collapse and normal form: refusals 43, 23, 22, 27 and 21, the output, and the parts of the layout byte by byte.
 use Prim.Native.Nat.{ℕ, zero, suc}
 use mathlib.Core.List.{List, [], _∷_, _++_}
 use mathlib.Core.Path.{refl}
@@ -9,7 +9,7 @@ use Rattle.base.specs.Strings.{sameAt}
 use Rattle.base.specs.Bytes.{over, zeros}
 use Rattle.base.specs.Rows.{rows}
 use Rattle.format.specs.Geometry.{grains, directoryEntries, directorySectors}
-use Rattle.format.specs.Header.{cowdHeader, judge}
+use Rattle.format.specs.Header.{kindGone, judgeCowd, judgeOf}
 use Rattle.format.specs.Check.{checkFrom}
 use Rattle.format.specs.Chain.{unlike}
 use Rattle.format.specs.Grains.{Map, absent, zeroed, stored, clip, bytesOf, oneIfStored, storedBelow, entryFor}
@@ -17,24 +17,19 @@ use Rattle.format.specs.Layout.{tableCount, tablesAt, tablesEnd, sectorV, secto
 use Rattle.format.specs.Layout.{tableBytes, gapBytes, grainBytes, sectorsLaid}
 use Rattle.format.specs.Collapse.{ifAccepted, writtenIfRoom, normalFrom, normal, collapseFrom, collapse, output}
 use Rattle.format.specs.declared.Kind.the-variants.{Kdmv}
-use Rattle.format.specs.declared.Header.{Header}
 use Rattle.format.specs.declared.Refusal.the-variants.{TooShort, Magic, TooLittleRoom, LayersDiffer, NotCollapsible, StillOpen}
+use Rattle.format.specs.declared.Refusal.the-variants.{KindGone}
 use Rattle.format.specs.declared.CheckAnswer.the-variants.{Accepted}
 use Rattle.format.specs.declared.CollapseAnswer.{CollapseAnswer}
 use Rattle.format.specs.declared.CollapseAnswer.the-variants.{Written, Refused}
 use Rattle.laws.specs.Examples.{Example, example, Hold}
-use Rattle.laws.specs.Images.{joined, sizedHeader, openHeader, streamHeader}
+use Rattle.laws.specs.Images.{joined, cowdSectors, sizedHeader, openHeader, streamHeader}
 
 -- grain 0 is zero, grain 1 stored, all others absent
 abbrev grainsOf : List ℕ → Map
 grainsOf bytes zero = zeroed
 grainsOf bytes (suc zero) = stored bytes
 grainsOf bytes (suc (suc g)) = absent
-
--- a COWD header
-abbrev cowd : Header
-cowd =
-    cowdHeader (record { version = 1; capacity = 16; «grain_size» = 8; directory = 4; «directory_entries» = 1; dirty = 1 })
 
 -- ---- answers
 abbrev answers : List (Example CollapseAnswer)
@@ -43,10 +38,12 @@ answers =
     example (normal [] 0) (Refused TooShort)
     ∷ example (collapse (zeros 4) [] 0) (Refused Magic)
     ∷ example (ifAccepted (Accepted 16 8) (Written 1)) (Written 1)
-    -- 23: COWD or compressed, either one of two
-    ∷ example (normalFrom cowd (grainsOf []) 9999) (Refused NotCollapsible)
+    -- 43 is the check's
+    ∷ example (normal (cowdSectors 1 1 4 1) 0) (Refused KindGone)
+    ∷ example (collapse (cowdSectors 1 1 4 1) [] 0) (Refused KindGone)
+    -- 23: compressed, either one of two
     ∷ example (normalFrom (streamHeader 1) (grainsOf []) 9999) (Refused NotCollapsible)
-    ∷ example (collapseFrom cowd (sizedHeader 16 8) (grainsOf []) 9999) (Refused NotCollapsible)
+    ∷ example (collapseFrom (streamHeader 1) (sizedHeader 16 8) (grainsOf []) 9999) (Refused NotCollapsible)
     ∷ example (collapseFrom (sizedHeader 17 8) (streamHeader 1) (grainsOf []) 9999) (Refused NotCollapsible)
     -- 22: capacities or grain sizes differ; it comes before 27 and 21
     ∷ example (collapseFrom (sizedHeader 16 8) (sizedHeader 17 8) (grainsOf []) 0) (Refused LayersDiffer)
@@ -65,7 +62,7 @@ answers =
     ∷ []
 
 pub answers-hold : Hold answers
-unfolding pick zeros sameAt grains directoryEntries directorySectors cowdHeader judge checkFrom unlike oneIfStored storedBelow tableCount tablesAt tablesEnd sectorV sectorsLaid ifAccepted writtenIfRoom normalFrom collapseFrom
+unfolding pick leBytes zeros sameAt grains directoryEntries directorySectors kindGone judgeCowd judgeOf checkFrom unlike oneIfStored storedBelow tableCount tablesAt tablesEnd sectorV sectorsLaid ifAccepted writtenIfRoom normalFrom collapseFrom
 answers-hold = refl
 
 -- ---- numbers of the layout

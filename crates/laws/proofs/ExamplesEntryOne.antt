@@ -11,7 +11,7 @@ use Rattle.base.specs.Bytes.{over, zeros}
 use Rattle.base.specs.Rows.{rows}
 use Rattle.format.specs.Geometry.{grains, directoryEntries, directorySectors}
 use Rattle.format.specs.Kdmv.{kdmvFields, kdmvFault}
-use Rattle.format.specs.Header.{kdmvOneIsZero, kdmvHeader, directoryOf, headerOf, unlessFault, withFooter, judgeKdmv, judge}
+use Rattle.format.specs.Header.{kdmvOneIsZero, kdmvHeader, directoryOf, headerOf, unlessFault, withFooter, judgeKdmv, judgeOf}
 use Rattle.format.specs.Entries.{meaning, inTable, entryOfGrain, grainSectors, anyBelow}
 use Rattle.format.specs.Areas.{ifThere, named, redundantTables, areas, runsPast, shares, sharesAny, meet}
 use Rattle.format.specs.Check.{misplaced, lowestFrom, copyDiffers, copiesDiffer, unlessGrain, checkApart, checkCopies}
@@ -84,14 +84,14 @@ pub damaged-checked :
     × (check (damaged 2 5 0) ≡ Accepted 16 8)
     × (check (damaged 3 5 0) ≡ Accepted 16 8)
     × (check (damaged 1 5 0) ≡ Refused Flags)
-unfolding pick powerUpTo leAt leBytes sameAt zeros rows grains directoryEntries directorySectors kdmvFields kdmvFault kdmvHeader directoryOf unlessFault withFooter judgeKdmv judge meaning inTable entryOfGrain grainSectors ifThere named redundantTables areas runsPast shares sharesAny meet misplaced lowestFrom copiesDiffer unlessGrain checkApart checkCopies checkGrains checkLayout checkFrom
+unfolding pick powerUpTo leAt leBytes sameAt zeros rows grains directoryEntries directorySectors kdmvFields kdmvFault kdmvHeader directoryOf unlessFault withFooter judgeKdmv judgeOf meaning inTable entryOfGrain grainSectors ifThere named redundantTables areas runsPast shares sharesAny meet misplaced lowestFrom copiesDiffer unlessGrain checkApart checkCopies checkGrains checkLayout checkFrom
 damaged-checked = (refl, refl, refl, refl, refl, refl, refl)
 
 pub at-one-checked :
     (check (tabled 1 1) ≡ Accepted 16 8)
     × (check (grained 1 1) ≡ Accepted 8 8)
     × (check (grained 3 1) ≡ Accepted 8 8)
-unfolding pick powerUpTo leAt leBytes sameAt zeros rows grains directoryEntries directorySectors kdmvFields kdmvFault kdmvHeader directoryOf unlessFault withFooter judgeKdmv judge meaning inTable entryOfGrain grainSectors ifThere named redundantTables areas runsPast shares sharesAny meet misplaced lowestFrom copiesDiffer unlessGrain checkApart checkCopies checkGrains checkLayout checkFrom
+unfolding pick powerUpTo leAt leBytes sameAt zeros rows grains directoryEntries directorySectors kdmvFields kdmvFault kdmvHeader directoryOf unlessFault withFooter judgeKdmv judgeOf meaning inTable entryOfGrain grainSectors ifThere named redundantTables areas runsPast shares sharesAny meet misplaced lowestFrom copiesDiffer unlessGrain checkApart checkCopies checkGrains checkLayout checkFrom
 at-one-checked = (refl, refl, refl)
 
 -- ---- 11 goes by meaning
@@ -107,7 +107,7 @@ pub copies-checked :
     × (check (copied 2 5 5 1) ≡ Refused CopiesDiffer)
     -- the tables at 1 and 5 differ in grain 1: it is absent, and at 11
     × (check (with 2564 4 11 (copied 1 1 1 5) ++ zeros 4096) ≡ Refused CopiesDiffer)
-unfolding pick powerUpTo leAt leBytes sameAt over zeros rows grains directoryEntries directorySectors kdmvFields kdmvFault kdmvHeader directoryOf unlessFault withFooter judgeKdmv judge meaning inTable entryOfGrain grainSectors anyBelow ifThere named redundantTables areas runsPast shares sharesAny meet misplaced lowestFrom copyDiffers copiesDiffer unlessGrain checkApart checkCopies checkGrains checkLayout checkFrom
+unfolding pick powerUpTo leAt leBytes sameAt over zeros rows grains directoryEntries directorySectors kdmvFields kdmvFault kdmvHeader directoryOf unlessFault withFooter judgeKdmv judgeOf meaning inTable entryOfGrain grainSectors anyBelow ifThere named redundantTables areas runsPast shares sharesAny meet misplaced lowestFrom copyDiffers copiesDiffer unlessGrain checkApart checkCopies checkGrains checkLayout checkFrom
 copies-checked = (refl, refl, refl, refl, refl, refl, refl, refl)
 
 -- ---- the lookup: sector 1 + o, an entry of the table at sector 1, and zeros
@@ -118,7 +118,7 @@ pub one-looked :
     × (sectorLookup (damaged 2 5 4) 7 ≡ Found Zero)
     × (sectorLookup (grained 2 5) 0 ≡ Found Zero)
     × (sectorLookup (tabled 3 5) 0 ≡ Found Zero)
-unfolding pick powerUpTo leAt leBytes sameAt zeros directoryEntries directorySectors kdmvFields kdmvFault kdmvHeader directoryOf unlessFault withFooter judgeKdmv judge meaning grainSectors grainSource lookupGrain lookupEntry lookupTable lookupIn lookupFrom
+unfolding pick powerUpTo leAt leBytes sameAt zeros directoryEntries directorySectors kdmvFields kdmvFault kdmvHeader directoryOf unlessFault withFooter judgeKdmv judgeOf meaning grainSectors grainSource lookupGrain lookupEntry lookupTable lookupIn lookupFrom
 one-looked = (refl, refl, refl, refl, refl, refl)
 
 -- ---- collapse: a grain at sector 1 is copied, a zero one is not, whichever layer has it
@@ -127,5 +127,5 @@ pub one-collapsed :
     × (normal (grained 2 5) 8192 ≡ Written 4096)
     × (collapse (grained 2 5) (grained 1 1) 8192 ≡ Written 8192)
     × (collapse (grained 1 1) (grained 2 5) 8192 ≡ Written 4096)
-unfolding pick powerUpTo leAt leBytes sameAt zeros rows grains directoryEntries directorySectors kdmvFields kdmvFault kdmvHeader directoryOf headerOf unlessFault withFooter judgeKdmv judge meaning inTable entryOfGrain grainSectors ifThere named redundantTables areas runsPast shares sharesAny meet misplaced lowestFrom copiesDiffer unlessGrain checkApart checkCopies checkGrains checkLayout checkFrom grainFrom oneIfStored storedBelow tableCount tablesAt tablesEnd sectorV sectorsLaid ifAccepted writtenIfRoom normalFrom upperUnlessAbsent unlike collapseFrom
+unfolding pick powerUpTo leAt leBytes sameAt zeros rows grains directoryEntries directorySectors kdmvFields kdmvFault kdmvHeader directoryOf headerOf unlessFault withFooter judgeKdmv judgeOf meaning inTable entryOfGrain grainSectors ifThere named redundantTables areas runsPast shares sharesAny meet misplaced lowestFrom copiesDiffer unlessGrain checkApart checkCopies checkGrains checkLayout checkFrom grainFrom oneIfStored storedBelow tableCount tablesAt tablesEnd sectorV sectorsLaid ifAccepted writtenIfRoom normalFrom upperUnlessAbsent unlike collapseFrom
 one-collapsed = (refl, refl, refl, refl)

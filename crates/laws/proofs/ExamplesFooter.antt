@@ -13,7 +13,7 @@ use Rattle.base.specs.Bytes.{over, zeros}
 use Rattle.base.proofs.Steps.{cond-all}
 use Rattle.format.specs.Geometry.{directoryEntries, directorySectors}
 use Rattle.format.specs.Kdmv.{kdmvFields, kdmvFault, footerBroken}
-use Rattle.format.specs.Header.{kdmvHeader, directoryOf, unlessFault, withFooter, judgeKdmv, judge}
+use Rattle.format.specs.Header.{kdmvHeader, directoryOf, unlessFault, withFooter, judgeKdmv, judgeOf, judge}
 use Rattle.format.specs.Accepted.{FooterRules}
 use Rattle.format.specs.declared.Header.{Header}
 use Rattle.format.specs.declared.Refusal.the-variants.{Footer}
@@ -32,7 +32,7 @@ four-kept =
 
 -- the footer's directory sector counts
 pub footer-told : judge (four 0x1112131415161718) ≡ Known (streamHeader 0x1112131415161718)
-unfolding pick powerUpTo leAt leBytes sameAt over zeros directoryEntries directorySectors kdmvFields kdmvFault kdmvHeader directoryOf unlessFault withFooter judgeKdmv judge
+unfolding pick powerUpTo leAt leBytes sameAt over zeros directoryEntries directorySectors kdmvFields kdmvFault kdmvHeader directoryOf unlessFault withFooter judgeKdmv judgeOf
 footer-told = rw (kept-footer _ four-kept)
 
 -- ---- streams that break one rule: 7
@@ -59,7 +59,7 @@ pub footers-refused :
     × (judge (changed 1536) ≡ Refused Footer)
     × (judge (changed 2047) ≡ Refused Footer)
     × (judge (four 0xffffffffffffffff) ≡ Refused Footer)
-unfolding pick powerUpTo leAt leBytes sameAt over zeros directoryEntries directorySectors kdmvFields kdmvFault kdmvHeader directoryOf unlessFault withFooter judgeKdmv judge
+unfolding pick powerUpTo leAt leBytes sameAt over zeros directoryEntries directorySectors kdmvFields kdmvFault kdmvHeader directoryOf unlessFault withFooter judgeKdmv judgeOf
 footers-refused = (
   broken (four 5 ++ zeros 1) (streamHeader 5) refl (λ r. omega (arith, r .multiple)),
   broken (stream [] 5) (streamHeader 5) refl (λ r. omega (arith, r .long)),

@@ -1,4 +1,4 @@
--- Headers on both sides of the edge of each rule: refusals 1 to 6, and what an image that is not refused tells.
+-- Headers on both sides of the edge of each rule: refusals 1 to 6 and 43, and what an image that is not refused tells.
 use Prim.Native.Nat.{ℕ}
 use mathlib.Core.List.{List, [], _∷_, map}
 use mathlib.Core.Path.{refl}
@@ -12,11 +12,13 @@ use Rattle.base.specs.Bytes.{over, zeros}
 use Rattle.format.specs.Geometry.{directoryEntries, directorySectors}
 use Rattle.format.specs.Kdmv.{kdmvFields, kdmvFault}
 use Rattle.format.specs.Cowd.{cowdFields, cowdFault}
-use Rattle.format.specs.Header.{kdmvHeader, cowdHeader, directoryOf, unlessFault, withFooter, judgeKdmv, judgeCowd, judge}
+use Rattle.format.specs.Header.{kdmvHeader, cowdHeader, directoryOf, unlessFault, withFooter, judgeKdmv, kindGone}
+use Rattle.format.specs.Header.{judgeCowd, judgeOf, judge}
+use Rattle.format.specs.declared.Taken.the-variants.{Either}
 use Rattle.format.specs.declared.KdmvFields.{KdmvFields}
 use Rattle.format.specs.declared.Fault.{Fault}
 use Rattle.format.specs.declared.Fault.the-variants.{None, Found}
-use Rattle.format.specs.declared.Refusal.the-variants.{TooShort, Magic, Version, Newline, Flags, Sizes}
+use Rattle.format.specs.declared.Refusal.the-variants.{TooShort, Magic, Version, Newline, Flags, Sizes, KindGone}
 use Rattle.format.specs.declared.HeaderAnswer.{HeaderAnswer}
 use Rattle.format.specs.declared.HeaderAnswer.the-variants.{Known, Refused}
 use Rattle.laws.specs.Examples.{Example, example, Hold}
@@ -37,7 +39,12 @@ kinds =
     ∷ example (judge (take 511 (kdmvSector 0 8 1))) (Refused TooShort)
     ∷ example (judge (kdmvSector 0 8 1)) (Refused Sizes)
     ∷ example (judge (take 2047 (cowdSectors 0 1 4 1))) (Refused TooShort)
-    ∷ example (judge (cowdSectors 0 1 4 1)) (Refused Sizes)
+    -- COWD is 43, before 3 and 6; the moves go on to these
+    ∷ example (judge (cowdSectors 0 1 4 1)) (Refused KindGone)
+    ∷ example (judge (with 4 4 2 (cowdSectors 1 1 4 1))) (Refused KindGone)
+    ∷ example (judgeOf Either (take 2047 (cowdSectors 0 1 4 1))) (Refused TooShort)
+    ∷ example (judgeOf Either (cowdSectors 0 1 4 1)) (Refused Sizes)
+    ∷ example (judgeOf Either (with 4 4 2 (cowdSectors 1 1 4 1))) (Refused Version)
     ∷ []
 
 -- ---- 3 to 6 of KDMV
@@ -204,7 +211,7 @@ told =
       dirty = 0xf1;
     }))
     -- the directory takes the sectors of its stored count, 0x61626364 / 128 rounded up
-    ∷ example (judge cowdFull)
+    ∷ example (judgeOf Either cowdFull)
     (Known
     (record {
       cowd = true;
@@ -226,7 +233,7 @@ told =
     ∷ []
 
 pub kinds-judged : Hold kinds
-unfolding pick powerUpTo leAt leBytes sameAt zeros kdmvFields kdmvFault cowdFields cowdFault unlessFault judgeKdmv judgeCowd judge
+unfolding pick powerUpTo leAt leBytes sameAt over zeros kdmvFields kdmvFault cowdFields cowdFault unlessFault judgeKdmv kindGone judgeCowd judgeOf
 kinds-judged = refl
 
 pub rules-judged : Hold kdmvRules
@@ -242,5 +249,5 @@ unfolding leAt sameAt over leBytes zeros kdmvFields
 newline-read = refl
 
 pub headers-told : Hold told
-unfolding pick powerUpTo leAt leBytes sameAt over zeros directoryEntries directorySectors kdmvFields kdmvFault cowdFields cowdFault kdmvHeader cowdHeader directoryOf unlessFault withFooter judgeKdmv judgeCowd judge
+unfolding pick powerUpTo leAt leBytes sameAt over zeros directoryEntries directorySectors kdmvFields kdmvFault cowdFields cowdFault kdmvHeader cowdHeader directoryOf unlessFault withFooter judgeKdmv kindGone judgeCowd judgeOf
 headers-told = refl

@@ -9,7 +9,7 @@ use Rattle.base.specs.Strings.{sameAt}
 use Rattle.base.specs.Bytes.{over, zeros}
 use Rattle.format.specs.Geometry.{directoryEntries, directorySectors}
 use Rattle.format.specs.Kdmv.{kdmvFields, kdmvFault}
-use Rattle.format.specs.Header.{kdmvHeader, directoryOf, unlessFault, withFooter, judgeKdmv, judge}
+use Rattle.format.specs.Header.{kdmvHeader, directoryOf, unlessFault, withFooter, judgeKdmv, judgeOf, judge}
 use Rattle.format.specs.Entries.{meaning, grainSectors, markerBroken}
 use Rattle.format.specs.Source.{grainSource, lookupGrain, lookupEntry, lookupTable, lookupIn, lookupFrom, sectorLookup}
 use Rattle.format.specs.Source.{answerPart, sourceBytes}
@@ -62,7 +62,7 @@ streams-looked = (
 -- ---- ten sectors, uncompressed; in a lookup the grains may stand on the table
 small-looked : (zeroth first x : ℕ) → sectorLookup (small zeroth first 0 4) x
     ≡ lookupIn (small zeroth first 0 4) (sizedHeader 16 8) x
-unfolding pick powerUpTo leAt leBytes sameAt zeros directoryEntries directorySectors kdmvFields kdmvFault kdmvHeader directoryOf unlessFault withFooter judgeKdmv judge
+unfolding pick powerUpTo leAt leBytes sameAt zeros directoryEntries directorySectors kdmvFields kdmvFault kdmvHeader directoryOf unlessFault withFooter judgeKdmv judgeOf
 small-looked zeroth first x = looked _ (sizedHeader 16 8) x refl
 
 pub small-lookups :

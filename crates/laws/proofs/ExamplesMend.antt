@@ -9,7 +9,7 @@ use Rattle.base.specs.Bytes.{over, zeros}
 use Rattle.base.specs.Rows.{rows}
 use Rattle.format.specs.Geometry.{grains, directoryEntries, directorySectors}
 use Rattle.format.specs.Kdmv.{kdmvFields, kdmvFault}
-use Rattle.format.specs.Header.{kdmvHeader, directoryOf, headerOf, unlessFault, withFooter, judgeKdmv, judge}
+use Rattle.format.specs.Header.{kdmvHeader, directoryOf, headerOf, unlessFault, withFooter, judgeKdmv, judgeOf}
 use Rattle.format.specs.Entries.{meaning, inTable, entryOfGrain, grainSectors, anyBelow}
 use Rattle.format.specs.Areas.{ifThere, named, redundantTables, areas, runsPast, shares, sharesAny, meet}
 use Rattle.format.specs.Check.{misplaced, lowestMisplaced, lowestFrom, copyDiffers, copiesDiffer, unlessGrain, checkApart}
@@ -41,7 +41,7 @@ pub mended-examples :
     × (mend (with 1540 4 4 doubled) Primary 3 ≡ Refused NotMendable)
     × (mend (with 1540 4 4 doubled) Primary 0 ≡ Refused NotMendable)
     × (mend (with 1540 4 4 doubled) Redundant 3 ≡ Mended 1)
-unfolding pick powerUpTo leAt leBytes sameAt over zeros rows grains directoryEntries directorySectors kdmvFields kdmvFault kdmvHeader directoryOf headerOf unlessFault withFooter judgeKdmv judge meaning inTable entryOfGrain grainSectors anyBelow ifThere named redundantTables areas runsPast shares sharesAny meet misplaced lowestMisplaced lowestFrom copyDiffers copiesDiffer unlessGrain checkApart checkCopies checkGrains checkLayout checkFrom fromGood overTable mendedBelow kindsDiffer isRefused unmendable changeOf mendedIfRoom mendGood mendFrom
+unfolding pick powerUpTo leAt leBytes sameAt over zeros rows grains directoryEntries directorySectors kdmvFields kdmvFault kdmvHeader directoryOf headerOf unlessFault withFooter judgeKdmv judgeOf meaning inTable entryOfGrain grainSectors anyBelow ifThere named redundantTables areas runsPast shares sharesAny meet misplaced lowestMisplaced lowestFrom copyDiffers copiesDiffer unlessGrain checkApart checkCopies checkGrains checkLayout checkFrom fromGood overTable mendedBelow kindsDiffer isRefused unmendable changeOf mendedIfRoom mendGood mendFrom
 mended-examples = (refl, refl, refl, refl, refl, refl, refl, refl, refl, refl, refl)
 
 -- the image and the list after it: grain, old entry, new entry, and a word that keeps its content
@@ -52,7 +52,7 @@ pub written-examples :
     × (mendedList differing Redundant (7 ∷ 7 ∷ 7 ∷ 7 ∷ []) ≡ 1 ∷ 1 ∷ 0 ∷ 7 ∷ [])
     × (mendedImage differing Primary (7 ∷ 7 ∷ []) ≡ differing)
     × (mendedList differing Primary (7 ∷ 7 ∷ []) ≡ 7 ∷ 7 ∷ [])
-unfolding pick powerUpTo leAt leBytes sameAt over zeros rows grains directoryEntries directorySectors kdmvFields kdmvFault kdmvHeader directoryOf headerOf unlessFault withFooter judgeKdmv judge meaning inTable entryOfGrain grainSectors anyBelow ifThere named redundantTables areas runsPast shares sharesAny meet misplaced lowestFrom copyDiffers copiesDiffer unlessGrain checkApart checkCopies checkGrains checkLayout checkFrom fromGood overTable mendedBelow kindsDiffer isRefused unmendable changeOf mendedIfRoom mendGood mendFrom afterMend
+unfolding pick powerUpTo leAt leBytes sameAt over zeros rows grains directoryEntries directorySectors kdmvFields kdmvFault kdmvHeader directoryOf headerOf unlessFault withFooter judgeKdmv judgeOf meaning inTable entryOfGrain grainSectors anyBelow ifThere named redundantTables areas runsPast shares sharesAny meet misplaced lowestFrom copyDiffers copiesDiffer unlessGrain checkApart checkCopies checkGrains checkLayout checkFrom fromGood overTable mendedBelow kindsDiffer isRefused unmendable changeOf mendedIfRoom mendGood mendFrom afterMend
 written-examples = (refl, refl, refl, refl, refl, refl)
 
 -- version 1's story: 80 00 00 00 against 80 00 01 00, which differs behind the zero byte. The list alone, since 128 lies past

@@ -8,7 +8,7 @@ use Rattle.base.specs.Strings.{sameAt}
 use Rattle.base.specs.Bytes.{zeros}
 use Rattle.base.specs.Rows.{rows}
 use Rattle.format.specs.Geometry.{grains, directoryEntries, directorySectors}
-use Rattle.format.specs.Header.{cowdHeader, judge}
+use Rattle.format.specs.Header.{cowdHeader, judgeOf}
 use Rattle.format.specs.Entries.{meaning, inTable, entryOfGrain, anyBelow}
 use Rattle.format.specs.Check.{checkFrom}
 use Rattle.format.specs.Grains.{Map, absent, stored, bytesOf, oneIfStored, storedBelow, entryFor}
@@ -66,7 +66,7 @@ answers =
     ∷ []
 
 pub moves-answered : Hold answers
-unfolding pick leAt leBytes zeros sameAt grains directoryEntries directorySectors cowdHeader judge meaning inTable entryOfGrain anyBelow checkFrom oneIfStored storedBelow tableCount tablesAt tablesEnd sectorV sectorsLaid ifAccepted writtenIfRoom saysZero moveFrom
+unfolding pick leAt leBytes zeros sameAt grains directoryEntries directorySectors cowdHeader judgeOf meaning inTable entryOfGrain anyBelow checkFrom oneIfStored storedBelow tableCount tablesAt tablesEnd sectorV sectorsLaid ifAccepted writtenIfRoom saysZero moveFrom
 moves-answered = refl
 
 -- ---- numbers of the COWD normal form, and 44's

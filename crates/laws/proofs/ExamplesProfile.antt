@@ -8,7 +8,7 @@ use Rattle.base.specs.Pick.{pick}
 use Rattle.base.specs.Strings.{sameAt}
 use Rattle.base.specs.Bytes.{zeros}
 use Rattle.format.specs.Geometry.{grains, directoryEntries, directorySectors}
-use Rattle.format.specs.Header.{cowdHeader, judge}
+use Rattle.format.specs.Header.{judgeOf}
 use Rattle.format.specs.Check.{checkFrom}
 use Rattle.format.specs.Grains.{allAbsent, oneIfStored, storedBelow}
 use Rattle.format.specs.Layout.{tableCount, tablesAt, tablesEnd, sectorV, sectorsLaid, layoutLength}
@@ -22,11 +22,6 @@ use Rattle.format.specs.declared.CheckAnswer.the-variants.{Accepted, Refused}
 use Rattle.laws.specs.Examples.{Example, example, Hold}
 use Rattle.laws.specs.Images.{sizedHeader, openHeader, streamHeader}
 
--- a COWD header of the profile's sizes, by the dirty number
-abbrev cowd : ℕ → Header
-cowd n =
-    cowdHeader (record { version = 1; capacity = 128; «grain_size» = 128; directory = 4; «directory_entries» = 1; dirty = n })
-
 -- ---- answers
 abbrev answers : List (Example CheckAnswer)
 answers =
@@ -35,9 +30,7 @@ answers =
     ∷ example (profile (zeros 4)) (Refused Magic)
     ∷ example (profileIfAccepted (Refused Magic) (Accepted 128 128)) (Refused Magic)
     ∷ example (profileIfAccepted (Accepted 128 128) (Refused ProfileSizes)) (Refused ProfileSizes)
-    -- 23: COWD or compressed; it comes before 27, 47 and 42
-    ∷ example (profileFrom (cowd 0) (7 ∷ []) (7 ∷ [])) (Refused NotCollapsible)
-    ∷ example (profileFrom (cowd 1) [] (7 ∷ [])) (Refused NotCollapsible)
+    -- 23: compressed; it comes before 27, 47 and 42
     ∷ example (profileFrom (streamHeader 1) [] (7 ∷ [])) (Refused NotCollapsible)
     -- 27: any number but 0; it comes before 47 and 42
     ∷ example (profileFrom (openHeader 128 128 1) (7 ∷ []) (7 ∷ [])) (Refused StillOpen)
@@ -60,7 +53,7 @@ answers =
     ∷ []
 
 pub profiles-answered : Hold answers
-unfolding pick zeros sameAt cowdHeader judge checkFrom sameFile firstDifference profileForm profileFrom profileIfAccepted
+unfolding pick zeros sameAt judgeOf checkFrom sameFile firstDifference profileForm profileFrom profileIfAccepted
 profiles-answered = refl
 
 -- ---- two files

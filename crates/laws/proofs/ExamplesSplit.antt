@@ -20,16 +20,15 @@ use Rattle.descriptor.specs.Records.{accepted as acceptedText, handed, foundFro
 use Rattle.descriptor.specs.declared.Extent.{Extent}
 use Rattle.format.specs.Geometry.{grains, directoryEntries, directorySectors}
 use Rattle.format.specs.Kdmv.{kdmvFields, kdmvFault}
-use Rattle.format.specs.Cowd.{cowdFields, cowdFault}
-use Rattle.format.specs.Header.{kdmvHeader, cowdHeader, directoryOf, unlessFault, withFooter, judgeKdmv, judgeCowd, judge}
+use Rattle.format.specs.Header.{kdmvHeader, directoryOf, unlessFault, withFooter, judgeKdmv, judgeCowd, judgeOf}
 use Rattle.format.specs.Entries.{meaning, inTable, entryOfGrain, grainSectors}
 use Rattle.format.specs.Areas.{ifThere, named, redundantTables, areas, runsPast, shares, sharesAny, meet}
 use Rattle.format.specs.Check.{misplaced, lowestFrom, copiesDiffer, unlessGrain, checkApart, checkCopies, checkGrains}
 use Rattle.format.specs.Check.{checkLayout, checkFrom}
 use Rattle.format.specs.Source.{grainSource, lookupGrain, lookupEntry, lookupTable, lookupIn, lookupFrom}
 use Rattle.format.specs.Chain.{lengthsSum}
-use Rattle.format.specs.declared.Source.the-variants.{Absent, Zero, Stored}
-use Rattle.format.specs.declared.Refusal.the-variants.{TooShort, Magic, GrainPast}
+use Rattle.format.specs.declared.Source.the-variants.{Zero, Stored}
+use Rattle.format.specs.declared.Refusal.the-variants.{TooShort, Magic, GrainPast, KindGone}
 use Rattle.disk.specs.Split.{sourceIn, inZero, inPlain, lookedUp, inAccepted, inImage, byType, inExtent, atExtent, splitFrom}
 use Rattle.disk.specs.Split.{split, splitNumbers}
 use Rattle.disk.specs.declared.SplitAnswer.{SplitAnswer}
@@ -91,20 +90,24 @@ pub images-served :
     -- 38 comes after the image's own numbers, and 45 before them
     × (inExtent (small 8 0 0 10) (line 1 3 15 0) 7 3 ≡ CapacityDiffers 7)
     × (inExtent (small 9 0 0 10) (line 1 3 15 0) 7 3 ≡ Image 7 (GrainPast 0))
-    × (inExtent (small 9 0 0 10) (line 1 4 16 0) 7 3 ≡ OtherFile 7)
     × (inExtent (ascii "COWD") (line 1 3 16 0) 7 3 ≡ OtherFile 7)
-    × (inExtent (ascii "COWD") (line 1 4 16 0) 7 3 ≡ Image 7 TooShort)
+    × (inExtent cowdSmall (line 1 3 1 0) 7 0 ≡ OtherFile 7)
     × (inExtent (ascii "COW") (line 1 3 16 0) 7 3 ≡ Image 7 TooShort)
     × (inExtent (ascii "KDMW") (line 1 3 16 0) 7 3 ≡ Image 7 Magic)
-    -- VMFSSPARSE: capacity 1, the one grain absent
-    × (inExtent cowdSmall (line 1 4 1 0) 7 0 ≡ sourceIn 7 Absent)
-    -- NOACCESS is 39, whatever the file
+    -- VMFSSPARSE is 43 by the line, whatever its file holds
+    × (inExtent cowdSmall (line 1 4 1 0) 7 0 ≡ Image 7 KindGone)
+    × (inExtent (small 8 0 0 10) (line 1 4 16 0) 7 3 ≡ Image 7 KindGone)
+    × (inExtent [] (line 1 4 16 0) 7 3 ≡ Image 7 KindGone)
+    -- a COWD file is plain sectors under FLAT
+    × (inExtent cowdSmall (line 1 1 1 0) 7 0 ≡ sourceIn 7 (Stored 0))
+    -- NOACCESS is 39, whatever the type and the file
     × (inExtent (ascii "COWD") (line 3 3 16 0) 7 3 ≡ NoAccess 7)
+    × (inExtent cowdSmall (line 3 4 1 0) 7 0 ≡ NoAccess 7)
     -- plain sectors to the end of the file, and one more
     × (inExtent (zeros 1535) (line 2 2 1 1) 7 0 ≡ sourceIn 7 (Stored 1))
     × (inExtent (zeros 1535) (line 2 2 2 1) 7 0 ≡ OtherFile 7)
-unfolding pick powerUpTo leAt leBytes sameAt over zeros rows grains directoryEntries directorySectors kdmvFields kdmvFault cowdFields cowdFault kdmvHeader cowdHeader directoryOf unlessFault withFooter judgeKdmv judgeCowd judge meaning inTable entryOfGrain grainSectors ifThere named redundantTables areas runsPast shares sharesAny meet misplaced lowestFrom copiesDiffer unlessGrain checkApart checkCopies checkGrains checkLayout checkFrom grainSource lookupGrain lookupEntry lookupTable lookupIn lookupFrom inPlain lookedUp inAccepted inImage byType inExtent
-images-served = (refl, refl, refl, refl, refl, refl, refl, refl, refl, refl, refl, refl)
+unfolding pick powerUpTo leAt leBytes sameAt over zeros rows grains directoryEntries directorySectors kdmvFields kdmvFault kdmvHeader directoryOf unlessFault withFooter judgeKdmv judgeCowd judgeOf meaning inTable entryOfGrain grainSectors ifThere named redundantTables areas runsPast shares sharesAny meet misplaced lowestFrom copiesDiffer unlessGrain checkApart checkCopies checkGrains checkLayout checkFrom grainSource lookupGrain lookupEntry lookupTable lookupIn lookupFrom inPlain lookedUp inAccepted inImage byType inExtent
+images-served = (refl, refl, refl, refl, refl, refl, refl, refl, refl, refl, refl, refl, refl, refl, refl)
 
 -- ---- the answer in numbers: number, layer, place, kind, sector, size, offset
 abbrev numbers : SplitAnswer → List ℕ

@@ -11,7 +11,7 @@ use Rattle.base.specs.Bytes.{over, zeros}
 use Rattle.base.specs.Rows.{rows}
 use Rattle.format.specs.Geometry.{grains, directoryEntries, directorySectors}
 use Rattle.format.specs.Kdmv.{kdmvFields, kdmvFault}
-use Rattle.format.specs.Header.{kdmvHeader, directoryOf, headerOf, unlessFault, withFooter, judgeKdmv, judge}
+use Rattle.format.specs.Header.{kdmvHeader, directoryOf, headerOf, unlessFault, withFooter, judgeKdmv, judgeOf}
 use Rattle.format.specs.Entries.{meaning, inTable, entryOfGrain, grainSectors}
 use Rattle.format.specs.Areas.{ifThere, named, redundantTables, areas, runsPast, shares, sharesAny, meet}
 use Rattle.format.specs.Check.{misplaced, lowestFrom, copiesDiffer, unlessGrain, checkApart, checkCopies}
@@ -32,12 +32,12 @@ abbrev lengths : List ℕ
 lengths = length images ∷ 0 ∷ []
 
 pub rows-two : rowsBelow images lengths 2 ≡ 1 ∷ 1 ∷ 0 ∷ 0 ∷ 0 ∷ 0 ∷ 0 ∷ 0 ∷ 0 ∷ 0 ∷ 1 ∷ 0 ∷ []
-unfolding pick powerUpTo leAt leBytes sameAt zeros grains directoryEntries directorySectors kdmvFields kdmvFault kdmvHeader directoryOf unlessFault withFooter judgeKdmv judge rows meaning inTable entryOfGrain grainSectors ifThere named redundantTables areas runsPast shares sharesAny meet misplaced lowestFrom copiesDiffer unlessGrain checkApart checkCopies checkGrains checkLayout checkFrom headerOf lengthsSum entryKind countOf rowFrom rowWords
+unfolding pick powerUpTo leAt leBytes sameAt zeros grains directoryEntries directorySectors kdmvFields kdmvFault kdmvHeader directoryOf unlessFault withFooter judgeKdmv judgeOf rows meaning inTable entryOfGrain grainSectors ifThere named redundantTables areas runsPast shares sharesAny meet misplaced lowestFrom copiesDiffer unlessGrain checkApart checkCopies checkGrains checkLayout checkFrom headerOf lengthsSum entryKind countOf rowFrom rowWords
 rows-two = refl
 
 -- ---- images of no bytes: three are refused 1
 pub tally-three : tallyBelow [] (0 ∷ 0 ∷ 0 ∷ []) 3 ≡ 3 ∷ replicate 62 0
-unfolding pick rows judge checkFrom headerOf sameAt lengthsSum countOf rowFrom
+unfolding pick rows judgeOf checkFrom headerOf sameAt lengthsSum countOf rowFrom
 tally-three = refl
 
 -- ---- the answer
@@ -51,7 +51,7 @@ pub answers :
     × (asked (0 ∷ []) 5 63 ≡ Refused TooLittleRoom)
     × (asked (0 ∷ []) 6 62 ≡ Refused TooLittleRoom)
     × (asked (0 ∷ []) 6 63 ≡ Surveyed (record { stored = 0; zero = 0; absent = 0; packed = 0 }))
-unfolding pick judge checkFrom headerOf sameAt lengthsSum countOf rowFrom addRow totalsBelow surveyedIfRoom survey
+unfolding pick judgeOf checkFrom headerOf sameAt lengthsSum countOf rowFrom addRow totalsBelow surveyedIfRoom survey
 answers = (refl, refl, refl, refl, refl, refl)
 
 -- ---- a list: words from its start on, and the rest as it was; on a refusal all as it was

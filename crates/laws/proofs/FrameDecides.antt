@@ -4,7 +4,6 @@ use Prim.Native.Nat.{ℕ, _+_, _*_, _≤_}
 use mathlib.Core.Path.{_≡_, refl, ap, _∙_}
 use mathlib.Core.List.{List, _++_}
 use mathlib.Core.Bool.{true}
-use mathlib.Core.Logic.{⊎-elim}
 use native.Mathlib.Omega.{arith}
 use lib.Dec.{lit≤}
 use lib.ListN.{length}
@@ -13,7 +12,7 @@ use Rattle.base.specs.Strings.{sameAt}
 use Rattle.format.proofs.Picked.{pick-then}
 use Rattle.format.specs.Geometry.{fileSectors}
 use Rattle.format.specs.Kdmv.{kdmvMagic, kdmvFields, atEnd}
-use Rattle.format.specs.Header.{kdmvHeader, cowdHeader, headerOf, directoryEntriesOf, judge}
+use Rattle.format.specs.Header.{kdmvHeader, headerOf, directoryEntriesOf, judge}
 use Rattle.format.specs.Entries.{entryAt, meaningAt}
 use Rattle.format.specs.Areas.{headerArea, directoryArea, redundantArea, tableAreas, primaryTables, named}
 use Rattle.format.specs.Areas.{redundantTables, footerArea, lastArea}
@@ -37,7 +36,7 @@ use Rattle.laws.specs.SameFrame.{SameAreas, decidingAreas, SameFrame, Sa
 use Rattle.laws.specs.Unused.{SameTables, SameInUse, SameUsed}
 use Rattle.base.proofs.SameBytes.{within, number-same}
 use Rattle.laws.proofs.SameAreas.{areas-both, areas-row, area-there, area-named}
-use Rattle.format.proofs.SameHeader.{four-sectors, SameHead, head-sizes, judge-same}
+use Rattle.format.proofs.SameHeader.{SameHead, head-sizes, judge-same}
 use Rattle.laws.proofs.UsedAnswers.{used-check, used-lookup, used-frame, used-list, used-row}
 use Rattle.laws.proofs.UsedCheckIn.{used-check-in, used-lent}
 use Rattle.laws.proofs.UsedChain.{used-chain}
@@ -51,8 +50,8 @@ listed-known s room count (unknown r) e = let z : _≡_ {A = ℕ} 0 1 = cc in ab
 listed-known s room count (Known h) e = (h, refl)
 
 header-some : (s : List ℕ) (h : Header) → judge s ≡ Known h → 1 ≤ h .«header_sectors»
-unfolding kdmvHeader cowdHeader
-header-some s h e = ⊎-elim (λ r. rw (r .1) (lit≤ tt)) (λ r. rw (r .1) (lit≤ tt)) (judged-rules s h e)
+unfolding kdmvHeader
+header-some s h e = rw (judged-rules s h e .1) (lit≤ tt)
 
 -- ---- group by group
 pub record SameGroups (s t : List ℕ) (h : Header) : Type 0 where
@@ -117,7 +116,7 @@ module _ (s t : List ℕ) (both : SameFrame s t) where
   parts = groups s t (headerOf s) (both .areas)
 
   sectors-some : 1 ≤ fileSectors s
-  sectors-some = omega (arith, ⊎-elim (λ r. r .0 .long) (λ r. omega (arith, r .0 .long)) (judged-rules s (headerOf s) known))
+  sectors-some = omega (arith, judged-rules s (headerOf s) known .0 .long)
 
   has-footer : sameAt s 0 kdmvMagic ≡ true → headerOf s .footer ≡ atEnd (kdmvFields s)
   unfolding headerOf kdmvHeader
@@ -129,7 +128,6 @@ module _ (s t : List ℕ) (both : SameFrame s t) where
       long = both .long;
       some = sectors-some;
       head = within s t _ _ 0 512 (parts .header .0) (omega arith) (omega (arith, header-some s (headerOf s) known));
-      more = λ l n. within s t _ _ 0 2048 (parts .header .0) (omega arith) (omega (arith, four-sectors s n));
       foot = λ m e. area-there s t _ _ (parts .footer) (has-footer m ∙ e);
     };
     last = λ m e. area-there s t _ _ (parts .last) (has-footer m ∙ e);

@@ -116,7 +116,7 @@ places-in s h x =
 
 places-from : (s : List ℕ) (x : ℕ) (a : HeaderAnswer) → judge s ≡ a → LookupPlaces (lookupFrom s x a)
 unfolding lookupFrom
-places-from s x (unknown r) j = λ e. absurd (omega (arith, judge-refuses s r j))
+places-from s x (unknown r) j = λ e. absurd (judge-refuses s r j 8 (omega arith) (omega arith) e)
 places-from s x (Known h) j = places-in s h x
 
 pub lookup-eight : (s : List ℕ) (x : ℕ) (r : Refusal) → sectorLookup s x ≡ notFound r → number r ≡ 8
@@ -132,7 +132,7 @@ module _ (s lengths : List ℕ) (x : ℕ) where
   header-by : (k : ℕ) (h : HeaderAnswer) (below : ChainAnswer) → judge (layerAt s lengths k) ≡ h → ByLayer below
       → ByLayer (ifKnown k h below)
   unfolding ifKnown
-  header-by k (unknown r) below j w = λ e. absurd (omega (arith, judge-refuses (layerAt s lengths k) r j))
+  header-by k (unknown r) below j w = λ e. absurd (judge-refuses (layerAt s lengths k) r j 8 (omega arith) (omega arith) e)
   header-by k (Known h) below j w = w
 
   headers-by : (n : ℕ) (a : ChainAnswer) → ByLayer a → ByLayer (headersDown s lengths n a)

@@ -10,7 +10,7 @@ use Rattle.base.specs.Pick.{pick}
 use Rattle.format.specs.Geometry.{fileSectors, grains, directorySectors}
 use Rattle.format.specs.Entries.{meaningAt, grainSectors}
 use Rattle.format.specs.Areas.{Area, area, ifThere, named, primaryTables, redundantTables, grainArea, grainAreas, areas}
-use Rattle.format.specs.Accepted.{AreaRules, Accepted}
+use Rattle.format.specs.Accepted.{AreaRules, AcceptedKdmv, Accepted}
 use Rattle.format.specs.Accepted.Accepted.{kdmv, cowd}
 use Rattle.format.specs.Grains.{Grain, absent, zeroed, stored, Map, oneIfStored, storedBelow}
 use Rattle.format.specs.Layout.{Fits, headSectors, sectorsPerTable, tableCount, tablesAt, tablesEnd, sectorV, sectorOf}
@@ -106,9 +106,13 @@ module _ (kind : Kind) {c size : ℕ} (z : Sizes c size) (m : Map) where
             apart = between-apart _ 0 _ all-between;
           }
 
+layout-kdmv : {c size : ℕ} (z : Sizes c size) (m : Map) → ((g : ℕ) → g < grains c size → Held Kdmv (m g)) → Fits c size m
+    → AcceptedKdmv (layoutOf c size m)
+layout-kdmv z m w f = record { rules = layout-rules z m; areas = rw (kdmv-laid z m) (areas-kept Kdmv z m w f) }
+
 pub layout-accepted : (kind : Kind) {c size : ℕ} (z : Sizes c size) (m : Map)
     → ((g : ℕ) → g < grains c size → Held kind (m g)) → Fits c size m → Accepted (layoutAs kind c size m)
-layout-accepted Kdmv z m w f = kdmv (layout-rules z m) (rw (kdmv-laid z m) (areas-kept Kdmv z m w f))
+layout-accepted Kdmv z m w f = let a = layout-kdmv z m w f in kdmv (a .rules) (a .areas)
 layout-accepted Cowd z m w f = cowd (cowd-rules z m) (rw (cowd-laid z m) (areas-kept Cowd z m w f))
 
 -- so the collapsed image may be collapsed again
@@ -116,7 +120,7 @@ pub layout-layer : {c size : ℕ} (z : Sizes c size) (m : Map) → Fits c size m
 layout-layer {c} {size} z m f =
     let h = header-laid Kdmv z m in
     record {
-      accepted = rw h at (accepted-complete (layoutOf c size m) (layout-accepted Kdmv z m (λ g l. tt) f));
+      accepted = rw h at (accepted-complete (layoutOf c size m) (layout-kdmv z m (λ g l. tt) f));
       collapsible = rw h;
       clean = rw h;
     }

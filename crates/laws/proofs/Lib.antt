@@ -111,3 +111,4 @@ pub mod ExamplesClose
 pub mod NotConstantClose
 pub mod NeverUsedClose
 pub mod ClosedCount
+pub mod KindGone

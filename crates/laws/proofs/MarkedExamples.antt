@@ -12,7 +12,7 @@ use Rattle.format.specs.Geometry.{grains, directoryEntries, directorySectors}
 use Rattle.format.specs.Kdmv.{kdmvFields, kdmvFault, footerBroken}
 use Rattle.format.specs.Cowd.{cowdFields, cowdFault}
 use Rattle.format.specs.Header.{kdmvHeader, cowdHeader, directoryOf, headerOf, grainsOf, directoryEntriesOf, unlessFault}
-use Rattle.format.specs.Header.{withFooter, judgeKdmv, judgeCowd, judge}
+use Rattle.format.specs.Header.{withFooter, judgeKdmv, judgeCowd, judgeOf}
 use Rattle.format.specs.Entries.{meaning, inTable, entryOfGrain, grainSectors, markerBroken, anyBelow}
 use Rattle.format.specs.Areas.{ifThere, named, redundantTables, areas, runsPast, shares, sharesAny, meet}
 use Rattle.format.specs.Check.{misplaced, lowestFrom, markerBrokenAt, copyDiffers, copiesDiffer, unlessGrain, checkApart}
@@ -78,7 +78,7 @@ examples =
     ∷ []
 
 pub all-right : Every (λ (e : Example). e .gives ≡ e .wants) examples
-unfolding pick powerUpTo leAt leBytes sameAt zeros rows grains directoryEntries directorySectors kdmvFields kdmvFault footerBroken cowdFields cowdFault kdmvHeader cowdHeader directoryOf headerOf unlessFault withFooter judgeKdmv judgeCowd judge meaning inTable entryOfGrain grainSectors markerBroken anyBelow ifThere named redundantTables areas runsPast shares sharesAny meet misplaced lowestFrom markerBrokenAt copyDiffers copiesDiffer unlessGrain checkApart checkCopies checkGrains checkLayout checkFrom grainSource lookupGrain lookupEntry lookupTable lookupIn lookupFrom grainFrom oneIfStored storedBelow tableCount tablesAt tablesEnd sectorV sectorsLaid ifAccepted writtenIfRoom normalFrom
+unfolding pick powerUpTo leAt leBytes sameAt zeros rows grains directoryEntries directorySectors kdmvFields kdmvFault footerBroken cowdFields cowdFault kdmvHeader cowdHeader directoryOf headerOf unlessFault withFooter judgeKdmv judgeCowd judgeOf meaning inTable entryOfGrain grainSectors markerBroken anyBelow ifThere named redundantTables areas runsPast shares sharesAny meet misplaced lowestFrom markerBrokenAt copyDiffers copiesDiffer unlessGrain checkApart checkCopies checkGrains checkLayout checkFrom grainSource lookupGrain lookupEntry lookupTable lookupIn lookupFrom grainFrom oneIfStored storedBelow tableCount tablesAt tablesEnd sectorV sectorsLaid ifAccepted writtenIfRoom normalFrom
 all-right =
     more refl (more refl (more refl (more refl (more refl
     (more refl (more refl (more refl (more refl (more refl (more refl (more refl none)))))))))))

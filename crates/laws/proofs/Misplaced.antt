@@ -139,7 +139,7 @@ module _ (s : List ℕ) (h : Header) where
 eight-from : (s : List ℕ) (a : HeaderAnswer) → judge s ≡ a → verdict (checkFrom s a) .number ≡ 8
     → LowestPart s (verdict (checkFrom s a) .place)
 unfolding checkFrom checkLayout
-eight-from s (unknown r) j e = absurd (omega (arith, judge-refuses s r j))
+eight-from s (unknown r) j e = absurd (judge-refuses s r j 8 (omega arith) (omega arith) e)
 eight-from s (Known h) j e =
     cond-all (λ a. verdict a .number ≡ 8 → LowestPart s (verdict a .place)) (misplaced s h) _ _
     (λ m n. record {

@@ -7,14 +7,15 @@ use lib.ListN.{length, take}
 use lib.Seq.{take-append-seam}
 use Rattle.base.specs.Bytes.{over}
 use Rattle.format.specs.Header.{headerOf}
-use Rattle.format.specs.Check.{check}
+use Rattle.format.specs.Check.{checkOf}
 use Rattle.format.specs.Collapse.{ifAccepted, stillOpen, writtenIfRoom, output}
 use Rattle.format.specs.Moves.{formAs, notTaken, notMovable, moveFrom, moveTo, moveOutput}
+use Rattle.format.specs.declared.Taken.the-variants.{Either}
 use Rattle.format.specs.declared.Kind.{Kind}
 use Rattle.format.specs.declared.CollapseAnswer.the-variants.{Written}
 use Rattle.format.proofs.Picked.{pick-else}
 use Rattle.laws.specs.MovedImages.{opposite, Movable}
-use Rattle.laws.proofs.AcceptedImage.{accepted-sound, accepted-complete}
+use Rattle.laws.proofs.AcceptedImage.{either-sound, either-complete}
 use Rattle.laws.proofs.CollapsedAnswer.{was-accepted, written-past, written-long}
 use Rattle.laws.proofs.MovedImages.{moved-length, moved-movable, there-and-back}
 
@@ -23,7 +24,7 @@ pub movable-moves : (kind : Kind) {s : List ℕ} → Movable kind s → (room : 
     → moveTo kind s room ≡ writtenIfRoom room (length (formAs kind s))
 unfolding ifAccepted moveFrom
 movable-moves kind {s} p room =
-    rw (accepted-complete s (p .accepted))
+    rw (either-complete s (p .accepted))
     (pick-else _ _ _ (p .taken) ∙ pick-else _ _ _ (p .clean) ∙ pick-else _ _ _ (p .held)
     ∙ ap (writtenIfRoom room) (sym (moved-length kind p)))
 
@@ -32,12 +33,12 @@ module _ (kind : Kind) (s : List ℕ) (room long : ℕ) (e : moveTo kind s room 
   pub move-movable : (Movable kind s) × (long ≡ length (formAs kind s)) × (long ≤ room)
   unfolding moveFrom
   move-movable =
-      let a = was-accepted (check s) _ long e in
+      let a = was-accepted (checkOf Either s) _ long e in
       let n = written-past (notTaken kind (headerOf s)) _ _ long (a .3) in
       let o = written-past (stillOpen (headerOf s)) _ _ long (n .1) in
       let h = written-past (notMovable kind s (headerOf s)) _ _ long (o .1) in
       let p : Movable kind s = record {
-        accepted = accepted-sound s (a .0) (a .1) (a .2) .0;
+        accepted = either-sound s (a .0) (a .1) (a .2) .0;
         taken = n .0;
         clean = o .0;
         held = h .0;

@@ -43,7 +43,6 @@ module _ (s t : List ℕ) (both : SameSectors s t) where
       long = both .long;
       some = both .some;
       head = below 0 512 (omega (arith, both .some));
-      more = λ l n. below 0 2048 (omega (arith, l));
       foot = λ m e. below _ 512 (omega (arith, both .some));
     };
     last = λ m e. below _ 512 (omega (arith, both .some));

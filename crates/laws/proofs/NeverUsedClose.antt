@@ -59,7 +59,7 @@ module _ (s t : List ℕ) (both : SameSectors s t) where
       (λ n.
       pick-both _≡_ (sameAt s 0 kdmvMagic) _ _ _ _ (λ m. kdmv-start-same)
       (λ m.
-      pick-both _≡_ (sameAt s 0 cowdMagic) _ _ _ _ (λ c. judge-cowd-same s t (same-head s t both) m) (λ c. refl))))
+      pick-both _≡_ (sameAt s 0 cowdMagic) _ _ _ _ (λ c. judge-cowd-same s t (same-head s t both)) (λ c. refl))))
 
   start-same : startOf s ≡ startOf t
   start-same = ap (λ (k : KdmvFields). kdmvHeader k (k .directory)) fields-same

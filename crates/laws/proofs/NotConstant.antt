@@ -13,7 +13,7 @@ use Rattle.base.specs.Bytes.{over, zeros}
 use Rattle.base.specs.Rows.{rows}
 use Rattle.format.specs.Geometry.{grains, directoryEntries, directorySectors}
 use Rattle.format.specs.Kdmv.{kdmvFields, kdmvFault}
-use Rattle.format.specs.Header.{kdmvHeader, directoryOf, headerOf, unlessFault, withFooter, judgeKdmv, judge}
+use Rattle.format.specs.Header.{kdmvHeader, directoryOf, headerOf, unlessFault, withFooter, judgeKdmv, judgeOf, judge}
 use Rattle.format.specs.Entries.{meaning, inTable, entryOfGrain, grainSectors, anyBelow}
 use Rattle.format.specs.Areas.{ifThere, named, redundantTables, areas, runsPast, shares, sharesAny, meet}
 use Rattle.format.specs.Check.{misplaced, lowestFrom, copyDiffers, copiesDiffer, unlessGrain, checkApart, checkCopies}
@@ -62,39 +62,39 @@ differ f n x a some p q r same = omega (arith, sym p ∙ ap n (sym (same []) ∙
 -- ---- images: no bytes are refused, and then each number but the refusal's is 0
 -- an accepted image of capacity 16
 pub check-varies : (r : Verdict) → ((s : List ℕ) → r ≡ verdict (check s)) → ⊥
-unfolding pick powerUpTo leAt leBytes sameAt zeros grains directoryEntries directorySectors kdmvFields kdmvFault kdmvHeader directoryOf unlessFault withFooter judgeKdmv judge rows meaning inTable entryOfGrain ifThere named redundantTables areas runsPast shares sharesAny meet misplaced lowestFrom copiesDiffer unlessGrain checkApart checkCopies checkGrains checkLayout checkFrom
+unfolding pick powerUpTo leAt leBytes sameAt zeros grains directoryEntries directorySectors kdmvFields kdmvFault kdmvHeader directoryOf unlessFault withFooter judgeKdmv judgeOf rows meaning inTable entryOfGrain ifThere named redundantTables areas runsPast shares sharesAny meet misplaced lowestFrom copiesDiffer unlessGrain checkApart checkCopies checkGrains checkLayout checkFrom
 check-varies = differ (λ s. verdict (check s)) (λ (v : Verdict). v .capacity) (small 0 0 0 0) 16 (omega arith) refl refl
 
 -- its six sectors, for which one word is enough
 pub check-in-varies : (r : Marked) → ((s : List ℕ) (room : ℕ) → r ≡ markedNumbers (checkIn s room)) → ⊥
-unfolding pick powerUpTo leAt leBytes sameAt zeros grains directoryEntries directorySectors kdmvFields kdmvFault kdmvHeader directoryOf headerOf unlessFault withFooter judgeKdmv judge rows meaning inTable entryOfGrain ifThere named redundantTables areas runsPast shares sharesAny meet misplaced lowestFrom copiesDiffer unlessGrain checkApart checkCopies checkGrains checkLayout checkFrom sectorsOf beforeMeeting cameToMarking checkInRoom withMarked
+unfolding pick powerUpTo leAt leBytes sameAt zeros grains directoryEntries directorySectors kdmvFields kdmvFault kdmvHeader directoryOf headerOf unlessFault withFooter judgeKdmv judgeOf rows meaning inTable entryOfGrain ifThere named redundantTables areas runsPast shares sharesAny meet misplaced lowestFrom copiesDiffer unlessGrain checkApart checkCopies checkGrains checkLayout checkFrom sectorsOf beforeMeeting cameToMarking checkInRoom withMarked
 check-in-varies r same =
     differ (λ s. markedNumbers (checkIn s 1)) (λ (v : Marked). v .marked) (small 0 0 0 0) 6 (omega arith) refl refl r
     (λ s. same s 1)
 
 -- its header
 pub header-varies : (r : Head) → ((s : List ℕ) → r ≡ headerNumbers (judge s)) → ⊥
-unfolding pick powerUpTo leAt leBytes sameAt zeros kdmvFields kdmvFault kdmvHeader unlessFault withFooter judgeKdmv judge
+unfolding pick powerUpTo leAt leBytes sameAt zeros kdmvFields kdmvFault kdmvHeader unlessFault withFooter judgeKdmv judgeOf
 header-varies =
     differ (λ s. headerNumbers (judge s)) (λ (v : Head). v .capacity) (kdmvSector 16 8 1) 16 (omega arith) refl refl
 
 -- a sector that is stored, kind 2
 pub lookup-varies : (r : Located) → ((s : List ℕ) (x : ℕ) → r ≡ located (sectorLookup s x)) → ⊥
-unfolding pick powerUpTo leAt leBytes sameAt zeros directoryEntries directorySectors kdmvFields kdmvFault kdmvHeader directoryOf unlessFault withFooter judgeKdmv judge meaning grainSectors grainSource lookupGrain lookupEntry lookupTable lookupIn lookupFrom
+unfolding pick powerUpTo leAt leBytes sameAt zeros directoryEntries directorySectors kdmvFields kdmvFault kdmvHeader directoryOf unlessFault withFooter judgeKdmv judgeOf meaning grainSectors grainSource lookupGrain lookupEntry lookupTable lookupIn lookupFrom
 lookup-varies r same =
     differ (λ s. located (sectorLookup s 0)) (λ (v : Located). v .kind) (small 6 0 0 8) 2 (omega arith) refl refl r
     (λ s. same s 0)
 
 -- its 512 bytes
 pub read-varies : (r : Part) → ((s : List ℕ) (x : ℕ) → r ≡ answerPart (sectorLookup s x)) → ⊥
-unfolding pick powerUpTo leAt leBytes sameAt zeros directoryEntries directorySectors kdmvFields kdmvFault kdmvHeader directoryOf unlessFault withFooter judgeKdmv judge meaning grainSectors grainSource lookupGrain lookupEntry lookupTable lookupIn lookupFrom
+unfolding pick powerUpTo leAt leBytes sameAt zeros directoryEntries directorySectors kdmvFields kdmvFault kdmvHeader directoryOf unlessFault withFooter judgeKdmv judgeOf meaning grainSectors grainSource lookupGrain lookupEntry lookupTable lookupIn lookupFrom
 read-varies r same =
     differ (λ s. answerPart (sectorLookup s 0)) (λ (v : Part). v .length) (small 6 0 0 8) 512 (omega arith) refl refl r
     (λ s. same s 0)
 
 -- the same sector, the image being a chain's only layer
 pub chain-varies : (r : Located) → ((s lengths : List ℕ) (x : ℕ) → r ≡ chained (chainLookup s lengths x)) → ⊥
-unfolding pick powerUpTo leAt leBytes sameAt zeros directoryEntries directorySectors kdmvFields kdmvFault kdmvHeader directoryOf unlessFault withFooter judgeKdmv judge meaning grainSectors grainSource lookupGrain lookupEntry lookupTable lookupIn lookupFrom headerOf anyBelow lengthsSum unlike ifKnown headersDown unlessAbsent walkDown walk chainLookup
+unfolding pick powerUpTo leAt leBytes sameAt zeros directoryEntries directorySectors kdmvFields kdmvFault kdmvHeader directoryOf unlessFault withFooter judgeKdmv judgeOf meaning grainSectors grainSource lookupGrain lookupEntry lookupTable lookupIn lookupFrom headerOf anyBelow lengthsSum unlike ifKnown headersDown unlessAbsent walkDown walk chainLookup
 chain-varies r same =
     differ (λ s. chained (chainLookup s (length s ∷ []) 0)) (λ (v : Located). v .kind) (small 6 0 0 8) 2 (omega arith) refl refl
     r
@@ -102,34 +102,34 @@ chain-varies r same =
 
 -- an image whose copies differ in one entry
 pub mend-varies : (r : Mended) → ((s : List ℕ) (good room : ℕ) → r ≡ mendedNumbers (mend s (sideOf good) room)) → ⊥
-unfolding pick powerUpTo leAt leBytes sameAt over zeros grains directoryEntries directorySectors kdmvFields kdmvFault kdmvHeader directoryOf headerOf unlessFault withFooter judgeKdmv judge rows meaning inTable entryOfGrain grainSectors anyBelow ifThere named redundantTables areas runsPast shares sharesAny meet misplaced lowestFrom copyDiffers copiesDiffer unlessGrain checkApart checkCopies checkGrains checkLayout checkFrom fromGood overTable mendedBelow kindsDiffer isRefused unmendable changeOf mendedIfRoom mendGood mendFrom
+unfolding pick powerUpTo leAt leBytes sameAt over zeros grains directoryEntries directorySectors kdmvFields kdmvFault kdmvHeader directoryOf headerOf unlessFault withFooter judgeKdmv judgeOf rows meaning inTable entryOfGrain grainSectors anyBelow ifThere named redundantTables areas runsPast shares sharesAny meet misplaced lowestFrom copyDiffers copiesDiffer unlessGrain checkApart checkCopies checkGrains checkLayout checkFrom fromGood overTable mendedBelow kindsDiffer isRefused unmendable changeOf mendedIfRoom mendGood mendFrom
 mend-varies r same =
     differ (λ s. mendedNumbers (mend s (sideOf 0) 3)) (λ (v : Mended). v .count) differing 1 (omega arith) refl refl r
     (λ s. same s 0 3)
 
 -- header, directory and table, for which a list of nine words has room
 pub frame-varies : (r : Framed) → ((s : List ℕ) (room : ℕ) → r ≡ framed (frame s room)) → ⊥
-unfolding pick powerUpTo leAt leBytes sameAt zeros grains directoryEntries directorySectors kdmvFields kdmvFault kdmvHeader directoryOf unlessFault withFooter judgeKdmv judge rows meaning ifThere named redundantTables runsPast misplaced frameAreas listedIfRoom frameFrom
+unfolding pick powerUpTo leAt leBytes sameAt zeros grains directoryEntries directorySectors kdmvFields kdmvFault kdmvHeader directoryOf unlessFault withFooter judgeKdmv judgeOf rows meaning ifThere named redundantTables runsPast misplaced frameAreas listedIfRoom frameFrom
 frame-varies r same =
     differ (λ s. framed (frame s 9)) (λ (v : Framed). v .count) (small 0 0 0 0) 3 (omega arith) refl refl r (λ s. same s 9)
 
 -- a stored grain in an image that stands alone
 pub survey-varies : (r : Surveyed)
     → ((s lengths : List ℕ) (rowsRoom tallyRoom : ℕ) → r ≡ surveyed (survey s lengths rowsRoom tallyRoom)) → ⊥
-unfolding pick powerUpTo leAt leBytes sameAt zeros grains directoryEntries directorySectors kdmvFields kdmvFault kdmvHeader directoryOf unlessFault withFooter judgeKdmv judge rows meaning inTable entryOfGrain grainSectors ifThere named redundantTables areas runsPast shares sharesAny meet misplaced lowestFrom copiesDiffer unlessGrain checkApart checkCopies checkGrains checkLayout checkFrom headerOf lengthsSum entryKind countOf rowFrom addRow totalsBelow surveyedIfRoom survey
+unfolding pick powerUpTo leAt leBytes sameAt zeros grains directoryEntries directorySectors kdmvFields kdmvFault kdmvHeader directoryOf unlessFault withFooter judgeKdmv judgeOf rows meaning inTable entryOfGrain grainSectors ifThere named redundantTables areas runsPast shares sharesAny meet misplaced lowestFrom copiesDiffer unlessGrain checkApart checkCopies checkGrains checkLayout checkFrom headerOf lengthsSum entryKind countOf rowFrom addRow totalsBelow surveyedIfRoom survey
 survey-varies r same =
     differ (λ s. surveyed (survey s (length s ∷ []) 6 63)) (λ (v : Surveyed). v .stored) (small 6 0 0 8) 1 (omega arith) refl
     refl r (λ s. same s (length s ∷ []) 6 63)
 
 -- eight sectors are written, for which there is room
 pub normal-varies : (r : Written) → ((s : List ℕ) (room : ℕ) → r ≡ written (normal s room)) → ⊥
-unfolding pick powerUpTo leAt leBytes sameAt zeros grains directoryEntries directorySectors kdmvFields kdmvFault kdmvHeader directoryOf unlessFault withFooter judgeKdmv judge rows meaning inTable entryOfGrain ifThere named redundantTables areas runsPast shares sharesAny meet misplaced lowestFrom copiesDiffer unlessGrain checkApart checkCopies checkGrains checkLayout checkFrom headerOf grainFrom oneIfStored storedBelow tableCount tablesAt tablesEnd sectorV sectorsLaid ifAccepted writtenIfRoom normalFrom
+unfolding pick powerUpTo leAt leBytes sameAt zeros grains directoryEntries directorySectors kdmvFields kdmvFault kdmvHeader directoryOf unlessFault withFooter judgeKdmv judgeOf rows meaning inTable entryOfGrain ifThere named redundantTables areas runsPast shares sharesAny meet misplaced lowestFrom copiesDiffer unlessGrain checkApart checkCopies checkGrains checkLayout checkFrom headerOf grainFrom oneIfStored storedBelow tableCount tablesAt tablesEnd sectorV sectorsLaid ifAccepted writtenIfRoom normalFrom
 normal-varies r same =
     differ (λ s. written (normal s 4096)) (λ (v : Written). v .length) (small 0 0 0 0) 4096 (omega arith) refl refl r
     (λ s. same s 4096)
 
 pub collapse-varies : (r : Written) → ((lower upper : List ℕ) (room : ℕ) → r ≡ written (collapse lower upper room)) → ⊥
-unfolding pick powerUpTo leAt leBytes sameAt zeros grains directoryEntries directorySectors kdmvFields kdmvFault kdmvHeader directoryOf unlessFault withFooter judgeKdmv judge rows meaning inTable entryOfGrain ifThere named redundantTables areas runsPast shares sharesAny meet misplaced lowestFrom copiesDiffer unlessGrain checkApart checkCopies checkGrains checkLayout checkFrom headerOf grainFrom oneIfStored storedBelow tableCount tablesAt tablesEnd sectorV sectorsLaid ifAccepted writtenIfRoom upperUnlessAbsent unlike collapseFrom
+unfolding pick powerUpTo leAt leBytes sameAt zeros grains directoryEntries directorySectors kdmvFields kdmvFault kdmvHeader directoryOf unlessFault withFooter judgeKdmv judgeOf rows meaning inTable entryOfGrain ifThere named redundantTables areas runsPast shares sharesAny meet misplaced lowestFrom copiesDiffer unlessGrain checkApart checkCopies checkGrains checkLayout checkFrom headerOf grainFrom oneIfStored storedBelow tableCount tablesAt tablesEnd sectorV sectorsLaid ifAccepted writtenIfRoom upperUnlessAbsent unlike collapseFrom
 collapse-varies r same =
     differ (λ s. written (collapse s s 4096)) (λ (v : Written). v .length) (small 0 0 0 0) 4096 (omega arith) refl refl r
     (λ s. same s s 4096)

@@ -14,7 +14,7 @@ use Rattle.format.specs.Geometry.{grains, directoryEntries, directorySectors}
 use Rattle.format.specs.Kdmv.{kdmvFields, kdmvFault}
 use Rattle.format.specs.Cowd.{cowdFields, cowdFault}
 use Rattle.format.specs.Header.{kdmvHeader, cowdHeader, directoryOf, headerOf, unlessFault, withFooter, judgeKdmv, judgeCowd}
-use Rattle.format.specs.Header.{judge}
+use Rattle.format.specs.Header.{kindGone, judgeOf}
 use Rattle.format.specs.Entries.{meaning, inTable, entryOfGrain, anyBelow}
 use Rattle.format.specs.Areas.{ifThere, named, redundantTables, areas, runsPast, shares, sharesAny, meet}
 use Rattle.format.specs.Check.{misplaced, lowestFrom, copiesDiffer, unlessGrain, checkApart, checkCopies, checkGrains}
@@ -30,14 +30,14 @@ use Rattle.laws.proofs.NotConstant.{differ}
 
 -- eight sectors are written, for which there is room
 pub to-kdmv-varies : (r : Written) → ((s : List ℕ) (room : ℕ) → r ≡ written (toKdmv s room)) → ⊥
-unfolding pick powerUpTo leAt leBytes sameAt zeros grains directoryEntries directorySectors cowdFields cowdFault cowdHeader unlessFault judgeCowd judge rows meaning inTable entryOfGrain ifThere named redundantTables areas runsPast shares sharesAny meet misplaced lowestFrom copiesDiffer unlessGrain checkApart checkCopies checkGrains checkLayout checkFrom headerOf grainFrom oneIfStored storedBelow tableCount tablesAt tablesEnd sectorV sectorsLaid ifAccepted writtenIfRoom moveFrom
+unfolding pick powerUpTo leAt leBytes sameAt zeros grains directoryEntries directorySectors cowdFields cowdFault cowdHeader unlessFault kindGone judgeCowd judgeOf rows meaning inTable entryOfGrain ifThere named redundantTables areas runsPast shares sharesAny meet misplaced lowestFrom copiesDiffer unlessGrain checkApart checkCopies checkGrains checkLayout checkFrom headerOf grainFrom oneIfStored storedBelow tableCount tablesAt tablesEnd sectorV sectorsLaid ifAccepted writtenIfRoom moveFrom
 to-kdmv-varies r same =
     differ (λ s. written (toKdmv s 4096)) (λ (v : Written). v .length) smallCowd 4096 (omega arith) refl refl r
     (λ s. same s 4096)
 
 -- header, directory and one table of 32 sectors
 pub to-cowd-varies : (r : Written) → ((s : List ℕ) (room : ℕ) → r ≡ written (toCowd s room)) → ⊥
-unfolding pick powerUpTo leAt leBytes sameAt zeros grains directoryEntries directorySectors kdmvFields kdmvFault kdmvHeader directoryOf unlessFault withFooter judgeKdmv judge rows meaning inTable entryOfGrain anyBelow ifThere named redundantTables areas runsPast shares sharesAny meet misplaced lowestFrom copiesDiffer unlessGrain checkApart checkCopies checkGrains checkLayout checkFrom headerOf grainFrom oneIfStored storedBelow tableCount tablesAt tablesEnd sectorV sectorsLaid ifAccepted writtenIfRoom saysZero moveFrom
+unfolding pick powerUpTo leAt leBytes sameAt zeros grains directoryEntries directorySectors kdmvFields kdmvFault kdmvHeader directoryOf unlessFault withFooter judgeKdmv judgeOf rows meaning inTable entryOfGrain anyBelow ifThere named redundantTables areas runsPast shares sharesAny meet misplaced lowestFrom copiesDiffer unlessGrain checkApart checkCopies checkGrains checkLayout checkFrom headerOf grainFrom oneIfStored storedBelow tableCount tablesAt tablesEnd sectorV sectorsLaid ifAccepted writtenIfRoom saysZero moveFrom
 to-cowd-varies r same =
     differ (λ s. written (toCowd s 18944)) (λ (v : Written). v .length) (small 0 0 0 0) 18944 (omega arith) refl refl r
     (λ s. same s 18944)

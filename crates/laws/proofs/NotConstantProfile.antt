@@ -4,7 +4,7 @@ use mathlib.Core.Path.{_≡_, refl, ap, _∙_}
 use mathlib.Core.List.{List, []}
 use native.Mathlib.Omega.{arith}
 use Rattle.base.specs.Pick.{pick}
-use Rattle.format.specs.Header.{judge}
+use Rattle.format.specs.Header.{judgeOf}
 use Rattle.format.specs.Check.{checkFrom}
 use Rattle.format.specs.Grains.{allAbsent}
 use Rattle.format.specs.Layout.{layoutOf}
@@ -31,7 +31,7 @@ blank : Layer 128 128 (layoutOf 128 128 allAbsent)
 blank = blank-accepted one-grain
 
 nothing : verdict (profile []) .capacity ≡ 0
-unfolding pick judge checkFrom profileIfAccepted
+unfolding pick judgeOf checkFrom profileIfAccepted
 nothing = refl
 
 pub profile-varies : (r : Verdict) → ((s : List ℕ) → r ≡ verdict (profile s)) → ⊥

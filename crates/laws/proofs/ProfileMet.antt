@@ -2,6 +2,7 @@
 -- A11.
 use Prim.Native.Nat.{ℕ, _%_, _≤_}
 use mathlib.Core.Path.{_≡_, refl, sym, ap, subst, _∙_}
+use mathlib.Core.Logic.{⊎-elim}
 use mathlib.Core.List.{List, _++_}
 use mathlib.Core.Bool.{Bool, true, false, not, true≢false}
 use native.Mathlib.Omega.{arith}
@@ -26,7 +27,7 @@ use Rattle.laws.specs.Layers.{Layer}
 use Rattle.laws.specs.ProfileImages.{Meets, FirstAt}
 use Rattle.laws.proofs.AcceptedImage.{accepted-complete}
 use Rattle.laws.proofs.CheckRefusals.{check-refuses}
-use Rattle.laws.proofs.CollapsedLayers.{layer-accepted, kdmv-only, capacity-is, size-is, unpacked}
+use Rattle.laws.proofs.CollapsedLayers.{layer-accepted, capacity-is, size-is, unpacked}
 use Rattle.laws.proofs.CollapsedAnswer.{own-layer}
 use Rattle.laws.proofs.ProfilePlace.{same-file, file-same, other-file, place-first, first-differs, place-only}
 use Rattle.laws.proofs.ProfilePlace.{longer-first, start-first}
@@ -41,7 +42,6 @@ equal-kept n m e = rw (eq-eqb n m e)
 pub layer-meets : {c : ℕ} {s : List ℕ} → Layer c 128 s → c % 128 ≡ 0 → s ≡ normalForm s → Meets s
 layer-meets {c} {s} p m f = record {
   accepted = layer-accepted p;
-  kdmv = kdmv-only p;
   uncompressed = unpacked p;
   clean = kept-equal (headerOf s .dirty) 0 (p .clean);
   grainSize = size-is p;
@@ -52,7 +52,7 @@ layer-meets {c} {s} p m f = record {
 pub meets-layer : {s : List ℕ} → Meets s → Layer (headerOf s .capacity) 128 s
 meets-layer {s} p = record {
   accepted = rw (p .grainSize) at (accepted-complete s (p .accepted));
-  collapsible = rw (p .kdmv, p .uncompressed);
+  collapsible = p .uncompressed;
   clean = equal-kept (headerOf s .dirty) 0 (p .clean);
 }
 
@@ -146,7 +146,9 @@ was-accepted : (s : List ℕ) (a b : CheckAnswer) (n : ℕ) → check s ≡ a �
     → (c : ℕ) × (size : ℕ) × (check s ≡ Accepted c size) × (b ≡ Refused (NotNormal n))
 unfolding profileIfAccepted
 was-accepted s (Refused r) b n k e =
-    let q : r ≡ NotNormal n = cc in let l : 42 ≤ 12 = rw q at (check-refuses s r k) in absurd (omega arith)
+    let q : r ≡ NotNormal n = cc in
+    absurd (⊎-elim (λ l. let z : 42 ≤ 12 = rw q at l in omega arith) (λ l. let z : 42 ≡ 43 = rw q at l in omega arith)
+    (check-refuses s r k))
 was-accepted s (Accepted c size) b n k e = (c, size, k, e)
 
 -- nor does a rule before the form

@@ -11,13 +11,12 @@ use Rattle.base.specs.Pick.{pick}
 use Rattle.base.proofs.Steps.{true-or-false}
 use Rattle.descriptor.specs.Extents.{FLAT, VMFS, SPARSE, ZERO}
 use Rattle.descriptor.specs.declared.Extent.{Extent}
-use Rattle.format.specs.Kdmv.{kdmvMagic}
-use Rattle.format.specs.Cowd.{cowdMagic}
+use Rattle.format.specs.declared.Refusal.the-variants.{KindGone}
 use Rattle.format.specs.declared.LayerSource.{LayerSource}
 use Rattle.format.proofs.Picked.{pick-then, pick-else, passed}
 use Rattle.disk.specs.Split.{sourceIn, inZero, inPlain, inImage, byType, inExtent}
 use Rattle.disk.specs.declared.SplitAnswer.{SplitAnswer}
-use Rattle.disk.specs.declared.SplitAnswer.the-variants.{Found}
+use Rattle.disk.specs.declared.SplitAnswer.the-variants.{Found, Image}
 use Rattle.laws.proofs.SplitServed.{to-type, found-allowed, image-back, image-answer}
 
 pub record Served (answer : SplitAnswer) : Type 0 where
@@ -34,10 +33,10 @@ module _ (s : List ℕ) (e : Extent) (i o p : ℕ) (low : p < e .sectors) (a : L
       let f = passed _ _ _ (Found a) (λ q. let z : _≡_ {A = ℕ} 0 1 = cc in omega arith) q in
       record { at = _; found = pick-else _ _ _ (f .0) }
 
-  image-too : (other : List ℕ) → inImage other s e i o ≡ Found a → Served (inImage other s e i p)
+  image-too : inImage s e i o ≡ Found a → Served (inImage s e i p)
   unfolding inImage
-  image-too other q =
-      let f = image-back s e i o a found other q in
+  image-too q =
+      let f = image-back s e i o a found q in
       record {
         at = _;
         found =
@@ -60,9 +59,11 @@ module _ (s : List ℕ) (e : Extent) (i o p : ℕ) (low : p < e .sectors) (a : L
       (λ t.
       ⊎-elim
       (λ k. through (pick-else _ _ _ z ∙ pick-else _ _ _ t ∙ pick-then _ _ _ k)
-      (image-too cowdMagic (sym (pick-else _ _ _ z ∙ pick-else _ _ _ t ∙ pick-then _ _ _ k) ∙ q)))
-      (λ k. through (pick-else _ _ _ z ∙ pick-else _ _ _ t ∙ pick-else _ _ _ k)
-      (image-too kdmvMagic (sym (pick-else _ _ _ z ∙ pick-else _ _ _ t ∙ pick-else _ _ _ k) ∙ q)))
+      (image-too (sym (pick-else _ _ _ z ∙ pick-else _ _ _ t ∙ pick-then _ _ _ k) ∙ q)))
+      (λ k.
+      let gone : Image i KindGone ≡ Found a = sym (pick-else _ _ _ z ∙ pick-else _ _ _ t ∙ pick-else _ _ _ k) ∙ q in
+      let y : _≡_ {A = ℕ} 0 1 = cc in
+      absurd (omega arith))
       (true-or-false (eqb (e .kind) SPARSE)))
       (true-or-false (eqb (e .kind) FLAT || eqb (e .kind) VMFS)))
       (true-or-false (eqb (e .kind) ZERO))

@@ -3,7 +3,7 @@
 use Prim.Native.Nat.{ℕ, _+_, _-_, _≤_, _<_}
 use mathlib.Core.Path.{_≡_, refl, sym, ap, subst, _∙_}
 use mathlib.Core.List.{List, [], append-nil}
-use mathlib.Core.Bool.{true, false, _||_, true≢false}
+use mathlib.Core.Bool.{true, false, _||_}
 use mathlib.Core.Logic.{⊎-elim}
 use native.Mathlib.Omega.{arith}
 use native.Mathlib.Nat.{zero-add}
@@ -13,7 +13,6 @@ use borrow.Author.Tests.{eq-eqb, ne-eqb, eqb-true, eqb-false, le-ltb, ltb-false}
 use Rattle.base.specs.Pick.{pick}
 use Rattle.base.specs.Strings.{sameAt}
 use Rattle.base.proofs.Steps.{true-or-false}
-use Rattle.base.proofs.Strings.{bytes-same}
 use Rattle.descriptor.specs.Extents.{NOACCESS, FLAT, VMFS, SPARSE, VMFSSPARSE, ZERO}
 use Rattle.descriptor.specs.Descriptor.{noExtent, readText}
 use Rattle.descriptor.specs.Records.{parsed, foundAt, notFound, findAnswer}
@@ -23,11 +22,10 @@ use Rattle.format.specs.Geometry.{fileSectors, bytesAt}
 use Rattle.format.specs.Kdmv.{kdmvMagic}
 use Rattle.format.specs.Cowd.{cowdMagic}
 use Rattle.format.specs.Header.{headerOf}
-use Rattle.format.specs.Accepted.{Accepted}
-use Rattle.format.specs.Accepted.Accepted.{kdmv, cowd}
 use Rattle.format.specs.Check.{check}
 use Rattle.format.specs.Source.{sourceOf, sectorLookup}
 use Rattle.format.specs.Chain.{layerAt}
+use Rattle.format.specs.declared.Refusal.the-variants.{KindGone}
 use Rattle.format.specs.declared.Source.the-variants.{Zero, Stored}
 use Rattle.format.specs.declared.LayerSource.{LayerSource}
 use Rattle.format.specs.declared.CheckAnswer.{CheckAnswer}
@@ -38,7 +36,7 @@ use Rattle.format.proofs.Picked.{pick-then, pick-else, passed}
 use Rattle.disk.specs.Split.{sourceIn, inZero, inPlain, lookedUp, inAccepted, inImage, byType, inExtent}
 use Rattle.disk.specs.Split.{splitLengthsBroken, extentsOf, atExtent, splitFrom, split}
 use Rattle.disk.specs.declared.SplitAnswer.{SplitAnswer}
-use Rattle.disk.specs.declared.SplitAnswer.the-variants.{Found, SectorPast}
+use Rattle.disk.specs.declared.SplitAnswer.the-variants.{Found, SectorPast, OtherFile, Image}
 use Rattle.laws.proofs.ExtentsLaid.{sectorsOf, Holder, Laid, laid-sum, none-past, Met, meets}
 use Rattle.laws.proofs.ExtentsRead.{text-read, few-extents}
 use Rattle.laws.proofs.ExtentsHeld.{Told, told-of}
@@ -151,14 +149,18 @@ module _ (s : List ℕ) (e : Extent) (i o : ℕ) (allowed : e .access ≡ NOACCE
       sound,
     )
 
-    pub vmfssparse-served : e .kind ≡ VMFSSPARSE → sameAt s 0 kdmvMagic ≡ false
-        → (inExtent s e i o ≡ sourceIn i (sourceOf s (headerOf s) o)) × (sectorLookup s o ≡ foundIn (sourceOf s (headerOf s) o))
-    unfolding byType inImage
-    vmfssparse-served k m = (
+  -- COWD's magic under SPARSE is 45, before the image's own numbers
+  pub sparse-other : e .kind ≡ SPARSE → sameAt s 0 cowdMagic ≡ true → inExtent s e i o ≡ OtherFile i
+  unfolding byType inImage
+  sparse-other k m =
+      by-type ∙ pick-else _ _ _ (is k ZERO) ∙ pick-else _ _ _ (plain-is k) ∙ pick-then _ _ _ (is k SPARSE)
+      ∙ pick-then _ _ _ m
+
+  -- VMFSSPARSE is 43 by the line alone, whatever its file holds
+  pub vmfssparse-gone : e .kind ≡ VMFSSPARSE → inExtent s e i o ≡ Image i KindGone
+  unfolding byType
+  vmfssparse-gone k =
       by-type ∙ pick-else _ _ _ (is k ZERO) ∙ pick-else _ _ _ (plain-is k) ∙ pick-else _ _ _ (is k SPARSE)
-          ∙ pick-else _ _ _ m ∙ image-answer,
-      sound,
-    )
 
 -- ---- and back: what was found tells of the file
 module _ (s : List ℕ) (e : Extent) (i o : ℕ) (a : LayerSource) (found : inExtent s e i o ≡ Found a) where
@@ -209,39 +211,26 @@ accepted-back s e i o (accepted c g) a k q =
     (λ f. let y = sym (pick-else _ _ _ f) ∙ q in let z : _≡_ {A = ℕ} 0 1 = cc in absurd (omega arith))
     (true-or-false (eqb c (e .sectors)))
 
--- and it is of its own kind: an accepted image that does not begin with the other's magic begins with its own
-kdmv-image : (s : List ℕ) → Accepted s → sameAt s 0 cowdMagic ≡ false → bytesAt s 0 4 ≡ kdmvMagic
-kdmv-image s (kdmv r a) n = r .magic
-kdmv-image s (cowd r a) n = absurd (true≢false (sym (bytes-same s 0 cowdMagic (r .magic)) ∙ n))
-
-cowd-image : (s : List ℕ) → Accepted s → sameAt s 0 kdmvMagic ≡ false → bytesAt s 0 4 ≡ cowdMagic
-cowd-image s (kdmv r a) n = absurd (true≢false (sym (bytes-same s 0 kdmvMagic (r .magic)) ∙ n))
-cowd-image s (cowd r a) n = r .magic
-
+-- and it is a KDMV image
 module _ (s : List ℕ) (e : Extent) (i o : ℕ) (a : LayerSource) (found : inExtent s e i o ≡ Found a) where
-  pub image-back : (other : List ℕ) → inImage other s e i o ≡ Found a → (sameAt s 0 other ≡ false) × (Serves s e o a)
+  pub image-back : inImage s e i o ≡ Found a → (sameAt s 0 cowdMagic ≡ false) × (Serves s e o a)
   unfolding inImage
-  image-back other q =
+  image-back q =
       let p = passed _ _ _ (Found a) (λ q. let z : _≡_ {A = ℕ} 0 1 = cc in omega arith) q in
       (p .0, accepted-back s e i o (check s) a refl (p .1))
-
-  sound-image : Serves s e o a → Accepted s
-  sound-image k = accepted-sound s (e .sectors) (k .size) (k .accepted) .0
 
   pub found-sparse : e .kind ≡ SPARSE → (bytesAt s 0 4 ≡ kdmvMagic) × (Serves s e o a)
   unfolding byType
   found-sparse k =
       let p =
-      image-back cowdMagic
+      image-back
       (sym (pick-else _ _ _ (ap (λ n. eqb n ZERO) k) ∙ pick-else _ _ _ (ap (λ n. eqb n FLAT || eqb n VMFS) k)
       ∙ pick-then _ _ _ (ap (λ n. eqb n SPARSE) k)) ∙ to-type s e i o a found .1) in
-      (kdmv-image s (sound-image (p .1)) (p .0), p .1)
+      (accepted-sound s (e .sectors) (p .1 .size) (p .1 .accepted) .0 .rules .magic, p .1)
 
-  pub found-vmfssparse : e .kind ≡ VMFSSPARSE → (bytesAt s 0 4 ≡ cowdMagic) × (Serves s e o a)
-  unfolding byType
-  found-vmfssparse k =
-      let p =
-      image-back kdmvMagic
-      (sym (pick-else _ _ _ (ap (λ n. eqb n ZERO) k) ∙ pick-else _ _ _ (ap (λ n. eqb n FLAT || eqb n VMFS) k)
-      ∙ pick-else _ _ _ (ap (λ n. eqb n SPARSE) k)) ∙ to-type s e i o a found .1) in
-      (cowd-image s (sound-image (p .1)) (p .0), p .1)
+  -- of VMFSSPARSE nothing is served
+  pub none-vmfssparse : e .kind ≡ VMFSSPARSE → ⊥
+  none-vmfssparse k =
+      let q = sym (vmfssparse-gone s e i o (found-allowed s e i o a found) k) ∙ found in
+      let z : _≡_ {A = ℕ} 0 1 = cc in
+      omega arith

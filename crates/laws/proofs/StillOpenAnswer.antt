@@ -2,6 +2,7 @@
 use Prim.Native.Nat.{ℕ, _≤_}
 use mathlib.Core.Path.{_≡_, refl, _∙_}
 use mathlib.Core.List.{List}
+use mathlib.Core.Logic.{⊎-elim}
 use mathlib.Core.Bool.{Bool, true, false, _||_}
 use native.Mathlib.Omega.{arith}
 use lib.Dec.{ltb, lit≤}
@@ -27,7 +28,8 @@ was-checked : (s : List ℕ) (a : CheckAnswer) (b : CollapseAnswer) → check s 
     → (SomeAccepted s) × (b ≡ Refused StillOpen)
 unfolding ifAccepted
 was-checked s (unaccepted r) b e q =
-    let is : r ≡ StillOpen = cc in let early = check-refuses s StillOpen (rw is at e) in absurd (omega arith)
+    let is : r ≡ StillOpen = cc in
+    absurd (⊎-elim (λ l. omega arith) (λ l. omega arith) (check-refuses s StillOpen (rw is at e)))
 was-checked s (Accepted c size) b e q = ((c, size, e), q)
 
 -- nor one of a lower number

@@ -16,23 +16,21 @@ use Rattle.format.specs.declared.HeaderAnswer.the-variants.{Known, Refused}
 use Rattle.format.specs.declared.ChainAnswer.{ChainAnswer}
 use Rattle.base.specs.Bytes.{SameBytes}
 use Rattle.laws.specs.StillOpen.{OtherNumber}
-use Rattle.laws.specs.StillOpen.OtherNumber.{kdmv, footer, cowd}
+use Rattle.laws.specs.StillOpen.OtherNumber.{kdmv, footer}
 use Rattle.format.proofs.SameHeader.{front-sizes}
 use Rattle.laws.proofs.UsedChain.{SameLayer, layers-chain}
 use Rattle.laws.proofs.StillOpenUsed.{answerWith, SameElse, else-check, else-lookup, else-frame, else-list, else-row}
 use Rattle.laws.proofs.StillOpenFront.{else-kdmv}
-use Rattle.laws.proofs.StillOpenAccepted.{else-cowd, else-footer}
+use Rattle.laws.proofs.StillOpenAccepted.{else-footer}
 
 else-of : (s t : List ℕ) → OtherNumber s t → SameElse s t
 else-of s t (kdmv both magic none) = else-kdmv s t both magic none
 else-of s t (footer both magic end a) = else-footer s t both magic end (a .0) (a .1) (a .2)
-else-of s t (cowd both magic a) = else-cowd s t both magic (a .0) (a .1) (a .2)
 
 -- the bytes before the number
 front-of : (s t : List ℕ) → OtherNumber s t → SameBytes s t 0 28
 front-of s t (kdmv both magic none) i l b = both .before i (omega arith)
 front-of s t (footer both magic end a) i l b = both .same i (λ z. omega arith) (λ z. omega arith)
-front-of s t (cowd both magic a) i l b = both .before i (omega arith)
 
 -- ---- one image
 module _ (s t : List ℕ) (other : OtherNumber s t) where

@@ -11,11 +11,9 @@ use Rattle.base.specs.Numbers.{leAt}
 use Rattle.base.specs.Strings.{sameAt}
 use Rattle.base.proofs.Steps.{pick-both}
 use Rattle.format.specs.Kdmv.{kdmvMagic, newlineBytes, kdmvFields, atEnd, kdmvFault, footerBroken, footerDirectory}
-use Rattle.format.specs.Cowd.{cowdMagic, cowdFields, cowdFault}
-use Rattle.format.specs.Header.{kdmvHeader, cowdHeader, directoryOf, kdmvHeaderOf, unlessFault, withFooter}
-use Rattle.format.specs.Header.{judgeKdmv, judgeCowd, judge}
+use Rattle.format.specs.Header.{kdmvHeader, directoryOf, kdmvHeaderOf, unlessFault, withFooter}
+use Rattle.format.specs.Header.{judgeKdmv, judgeOf, judge}
 use Rattle.format.specs.declared.KdmvFields.{KdmvFields}
-use Rattle.format.specs.declared.CowdFields.{CowdFields}
 use Rattle.format.specs.declared.Header.{Header}
 use Rattle.format.specs.declared.Fault.{Fault}
 use Rattle.format.specs.declared.Fault.the-variants.{None, Found}
@@ -99,56 +97,10 @@ module _ (s t : List ℕ) (long : length s ≡ length t) (front : SameBytes s t 
       (λ q. fault-with _ (kdmvFault (kdmvFields s)) _ _ (footer-with (kdmvHeaderOf s))))
 
   pub kdmv-with : judge t ≡ answerWith (leAt t 72 1) (judge s)
-  unfolding judge answerWith
+  unfolding judgeOf answerWith
   kdmv-with =
       rw (← long, ← string-same s t 0 kdmvMagic (within s t 0 72 0 4 front (omega arith) (omega arith)))
       (pick-both (With (leAt t 72 1)) (ltb (length s) 4) _ _ _ _ (λ q. refl)
       (λ q.
       pick-both (With (leAt t 72 1)) (sameAt s 0 kdmvMagic) _ _ _ _ (λ m. judge-kdmv-with)
       (λ n. absurd (true≢false (sym magic ∙ n)))))
-
--- ---- COWD: the bytes before 1648
-module _ (s t : List ℕ) (long : length s ≡ length t) (front : SameBytes s t 0 1648) (magic : sameAt s 0 kdmvMagic ≡ false) where
-  front-number : (at n : ℕ) → at + n ≤ 1648 → leAt s at n ≡ leAt t at n
-  front-number at n l = number-same s t at n (within s t 0 1648 at n front (omega arith) l)
-
-  front-string : (w : List ℕ) → length w ≤ 1648 → sameAt s 0 w ≡ sameAt t 0 w
-  front-string w l = string-same s t 0 w (within s t 0 1648 0 (length w) front (omega arith) (omega arith))
-
-  unfoldable cowdWith : CowdFields
-  cowdWith =
-      record {
-        version = cowdFields s .version;
-        capacity = cowdFields s .capacity;
-        «grain_size» = cowdFields s .«grain_size»;
-        directory = cowdFields s .directory;
-        «directory_entries» = cowdFields s .«directory_entries»;
-        dirty = leAt t 1648 4;
-      }
-
-  cowd-fields-with : cowdFields t ≡ cowdWith
-  unfolding cowdFields cowdWith
-  cowd-fields-with =
-      rw (
-        front-number 4 4 (omega arith),
-        front-number 12 4 (omega arith),
-        front-number 16 4 (omega arith),
-        front-number 20 4 (omega arith),
-        front-number 24 4 (omega arith),
-      )
-
-  judge-cowd-with : With (leAt t 1648 4) (judgeCowd t) (judgeCowd s)
-  unfolding judgeCowd answerWith cowdWith cowdFault cowdHeader withDirty
-  judge-cowd-with =
-      rw (← long, cowd-fields-with)
-      (pick-both (With (leAt t 1648 4)) (ltb (length s) 2048) _ _ _ _ (λ q. refl)
-      (λ q. fault-with _ (cowdFault (cowdFields s)) _ _ refl))
-
-  pub cowd-with : judge t ≡ answerWith (leAt t 1648 4) (judge s)
-  unfolding judge answerWith
-  cowd-with =
-      rw (← long, ← front-string kdmvMagic (omega arith), ← front-string cowdMagic (omega arith))
-      (pick-both (With (leAt t 1648 4)) (ltb (length s) 4) _ _ _ _ (λ q. refl)
-      (λ q.
-      pick-both (With (leAt t 1648 4)) (sameAt s 0 kdmvMagic) _ _ _ _ (λ m. absurd (true≢false (sym m ∙ magic)))
-      (λ n. pick-both (With (leAt t 1648 4)) (sameAt s 0 cowdMagic) _ _ _ _ (λ m. judge-cowd-with) (λ m. refl))))

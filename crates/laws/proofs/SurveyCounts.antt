@@ -24,7 +24,7 @@ use Rattle.format.specs.declared.Entry.the-variants.{Absent, Zero, Sector}
 use Rattle.format.specs.declared.LookupAnswer.{LookupAnswer}
 use Rattle.format.specs.declared.LookupAnswer.the-variants.{Found}
 use Rattle.format.specs.declared.CheckAnswer.the-variants.{Accepted}
-use Rattle.format.specs.Accepted.{Accepted as Meets}
+use Rattle.format.specs.Accepted.{AcceptedKdmv}
 use Rattle.laws.proofs.Counts.{count-same}
 use Rattle.laws.proofs.AcceptedImage.{accepted-sound}
 use Rattle.laws.proofs.ServedSectors.{accepted-good, served}
@@ -70,7 +70,7 @@ number-served s true o (Sector e) = refl
 number-served s false o (Sector e) = refl
 
 module _ (s : List ℕ) (c size : ℕ) (a : check s ≡ Accepted c size) where
-  meets : Meets s
+  meets : AcceptedKdmv s
   meets = accepted-sound s c size a .0
 
   -- the row is made of counts over the grains

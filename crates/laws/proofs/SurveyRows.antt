@@ -26,7 +26,7 @@ use Rattle.format.specs.declared.Refusal.{Refusal}
 use Rattle.format.specs.declared.Refusal.the-variants.{TooShort, Magic, Version, Newline, Flags, Sizes, Footer, Misplaced}
 use Rattle.format.specs.declared.Refusal.the-variants.{GrainPast, Marker, CopiesDiffer, SharedSector, SectorPast}
 use Rattle.format.specs.declared.Refusal.the-variants.{TooLittleRoom, LayersDiffer, NotCollapsible, LayerLengths, StillOpen}
-use Rattle.format.specs.declared.Refusal.the-variants.{NotMendable, NotClosable, NotNormal, NotMovable, ProfileSizes}
+use Rattle.format.specs.declared.Refusal.the-variants.{NotMendable, NotClosable, NotNormal, KindGone, NotMovable, ProfileSizes}
 use Rattle.format.specs.declared.CheckAnswer.{CheckAnswer}
 use Rattle.format.specs.declared.CheckAnswer.the-variants.{Accepted, Refused as unaccepted}
 use Rattle.format.specs.declared.SurveyAnswer.the-variants.{Surveyed, Refused}
@@ -76,6 +76,7 @@ number-few StillOpen = (omega arith, omega arith)
 number-few NotMendable = (omega arith, omega arith)
 number-few NotClosable = (omega arith, omega arith)
 number-few (NotNormal byte) = (omega arith, omega arith)
+number-few KindGone = (omega arith, omega arith)
 number-few NotMovable = (omega arith, omega arith)
 number-few ProfileSizes = (omega arith, omega arith)
 

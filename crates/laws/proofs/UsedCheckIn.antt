@@ -10,10 +10,11 @@ use Rattle.base.specs.Rounding.{ceil}
 use Rattle.base.specs.Bytes.{over, zeros}
 use Rattle.base.proofs.Steps.{and-both, pick-both}
 use Rattle.format.specs.Geometry.{fileSectors}
-use Rattle.format.specs.Header.{headerOf, judge}
+use Rattle.format.specs.Header.{headerOf}
 use Rattle.format.specs.Areas.{areas}
 use Rattle.format.specs.Check.{check}
 use Rattle.format.specs.CheckIn.{wordsNeeded, markedSectors, cameToMarking, checkInRoom, withMarked, checkIn, listAfterCheck}
+use Rattle.format.specs.declared.Taken.the-variants.{KdmvAlone}
 use Rattle.format.specs.declared.Refusal.the-variants.{TooLittleRoom}
 use Rattle.format.specs.declared.CheckAnswer.{CheckAnswer}
 use Rattle.format.specs.declared.CheckAnswer.the-variants.{Refused}
@@ -30,11 +31,11 @@ module _ (s t : List ℕ) (both : SameUsed s t) where
   module _ (came : cameToMarking (check s) ≡ true) where
     sectors-same : fileSectors s ≡ fileSectors t
     sectors-same =
-        let u = unmarked-of s came in ap (λ (n : ℕ). n / 512) (both .used (headerOf s) (u .judged) .long)
+        let u = unmarked-of KdmvAlone s came in ap (λ (n : ℕ). n / 512) (both .used (headerOf s) (u .judged) .long)
 
     marked-same : areas s (headerOf s) ≡ areas t (headerOf t)
     marked-same =
-        let u = unmarked-of s came in
+        let u = unmarked-of KdmvAlone s came in
         let sound = u .filed .placed .sound in
         let is : headerOf s ≡ headerOf t = judged-header t (headerOf s) (sym (both .judged) ∙ u .judged) in
         areas-same s t (headerOf s) (sound .sizes .low) (sound .some) (both .used (headerOf s) (u .judged))

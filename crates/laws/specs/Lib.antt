@@ -15,3 +15,4 @@ pub mod ExampleLayers
 pub mod MovedImages
 pub mod ProfileImages
 pub mod Closed
+pub mod CowdFile

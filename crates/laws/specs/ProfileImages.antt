@@ -7,17 +7,16 @@ use lib.ListN.{length, getD}
 use Rattle.base.specs.Bytes.{SameBytes}
 use Rattle.format.specs.Geometry.{fileSectors}
 use Rattle.format.specs.Header.{headerOf}
-use Rattle.format.specs.Accepted.{Accepted}
+use Rattle.format.specs.Accepted.{AcceptedKdmv}
 use Rattle.format.specs.Collapse.{normalForm}
 use Rattle.format.specs.Profile.{profile}
 use Rattle.format.specs.declared.Refusal.the-variants.{NotNormal}
 use Rattle.format.specs.declared.CheckAnswer.the-variants.{Refused}
 
--- an image that meets the profile: it keeps every layout rule, is KDMV, uncompressed and clean, has the two sizes, and is its
+-- an image that meets the profile: it keeps every layout rule of KDMV, is uncompressed and clean, has the two sizes, and is its
 -- own normal form
 pub record Meets (s : List ℕ) : Type 0 where
-  pub accepted : Accepted s
-  pub kdmv : headerOf s .cowd ≡ false
+  pub accepted : AcceptedKdmv s
   pub uncompressed : headerOf s .packed ≡ false
   pub clean : headerOf s .dirty ≡ 0
   pub grainSize : headerOf s .«grain_size» ≡ 128

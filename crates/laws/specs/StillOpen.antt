@@ -6,7 +6,6 @@ use mathlib.Core.Bool.{true, false, _||_}
 use lib.ListN.{length, getD}
 use Rattle.base.specs.Strings.{sameAt}
 use Rattle.format.specs.Kdmv.{kdmvMagic, kdmvFields, atEnd, footerAt}
-use Rattle.format.specs.Cowd.{cowdMagic}
 use Rattle.format.specs.Header.{headerOf}
 use Rattle.format.specs.Check.{check}
 use Rattle.format.specs.Chain.{unlike}
@@ -31,11 +30,10 @@ abbrev pub SomeAccepted : List ℕ → Type 0
 SomeAccepted s = (capacity : ℕ) × (grainSize : ℕ) × (check s ≡ Accepted capacity grainSize)
 
 -- t is s but for its dirty number: of KDMV without a footer, accepted or not; of an accepted KDMV image with a footer, where
--- both sectors have it; of an accepted COWD image
+-- both sectors have it
 pub data OtherNumber (s t : List ℕ) : Type 0 where
   kdmv : SameBut s t 72 1 → sameAt s 0 kdmvMagic ≡ true → atEnd (kdmvFields s) ≡ false → OtherNumber s t
   footer : SameButTwice s t → sameAt s 0 kdmvMagic ≡ true → atEnd (kdmvFields s) ≡ true → SomeAccepted s → OtherNumber s t
-  cowd : SameBut s t 1648 4 → sameAt s 0 cowdMagic ≡ true → SomeAccepted s → OtherNumber s t
 
 -- ---- what 27 tells
 

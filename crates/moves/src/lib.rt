@@ -1,4 +1,4 @@
-// Moves of images from COWD to KDMV and back, into lent output.
+// Moves of images from COWD to KDMV and back, into lent output: the only calls that take COWD.
 ghost use mathlib.Core.Path.{_≡_};
 ghost use lib.ListN.{length};
 ghost use Rattle.base.specs.Pick.{pick};
@@ -17,6 +17,7 @@ use format::Header;
 use format::HeaderAnswer;
 use format::Kind;
 use format::Refusal;
+use format::Taken;
 
 // 23: an image of that kind already, or a compressed one.
 fn not_taken(kind: Kind, h: Header) -> bool
@@ -109,7 +110,7 @@ fn move_to(kind: Kind, image: &[u8], out: &mut [u8]) -> CollapseAnswer
     ensures { λ r. ⌜ r ≡ moveTo kind (now (image .entry)) (length (now (out .entry))) ⌝ }
     ensures { λ r. ⌜ now (out .exit) ≡ moveOutput kind (now (image .entry)) (now (out .entry)) ⌝ }
 {
-    let judged = accept::accepted(image);
+    let judged = accept::accepted_of(Taken::Either, image);
     match judged {
         HeaderAnswer::Refused(r) => CollapseAnswer::Refused(r),
         HeaderAnswer::Known(h) => move_accepted(kind, image, h, &mut *out),

@@ -6,13 +6,10 @@ use native.Mathlib.Omega.{arith}
 use lib.ListN.{length}
 use Rattle.base.specs.Rounding.{ceil}
 use Rattle.base.specs.Bytes.{SameBytes, over}
-use Rattle.base.proofs.Steps.{or-no}
 use Rattle.base.proofs.Stands.{Stands}
 use Rattle.base.proofs.Over.{over-whole}
 use Rattle.format.specs.Geometry.{grains}
 use Rattle.format.specs.Entries.{grainEntry}
-use Rattle.format.specs.Accepted.{Accepted}
-use Rattle.format.specs.Accepted.Accepted.{kdmv, cowd}
 use Rattle.format.specs.Grains.{grainMap, grainFrom}
 use Rattle.format.specs.Layout.{Fits, tableCount, sectorsLaid, headerBytes}
 use Rattle.format.specs.declared.Kind.the-variants.{Kdmv}
@@ -32,10 +29,6 @@ use Rattle.profile.specs.FormCompared.{formOf, Published}
 use Rattle.profile.proofs.LaidFront.{header-told}
 
 -- ---- an accepted image
-accepted-long : (s : List ℕ) → Accepted s → 512 ≤ length s
-accepted-long s (kdmv r a) = r .long
-accepted-long s (cowd r a) = omega (arith, r .long)
-
 module _ (s : List ℕ) (h : Header) (p : Published s h) where
   layer : Layer (h .capacity) (h .«grain_size») s
   layer =
@@ -46,7 +39,7 @@ module _ (s : List ℕ) (h : Header) (p : Published s h) where
   sizes = layer-sizes layer
 
   pub image-long : 512 ≤ length s
-  image-long = accepted-long s (layer-accepted layer)
+  image-long = layer-accepted layer .rules .long
 
   pub fits : Fits (h .capacity) (h .«grain_size») (grainMap s h)
   fits g b = grain-whole (h .capacity) (h .«grain_size») g s _
@@ -81,7 +74,7 @@ module _ (s : List ℕ) (h : Header) (p : Published s h) where
     pub laid-readable : Readable s (laidHeader Kdmv (h .capacity) (h .«grain_size»))
     laid-readable =
         subst (λ (k : Header). Readable s k) laid-header
-        (readable s h (p .taken .checked) (or-no (h .cowd) (h .packed) (p .collapsible) .1))
+        (readable s h (p .taken .checked) (p .collapsible))
 
     pub own : (g : ℕ) → grainMap s h g
         ≡ grainFrom s (h .capacity) (h .«grain_size») g

@@ -57,9 +57,9 @@ module _ (s : List ℕ) where
 
     module _ (h : Header) (q : a ≡ Known h) where
       pub taken-of : Taken s h
-      taken-of = record { checked = checked-of s a h e q; accepted = known-by (check s) (check s) h refl (sym e ∙ q) .1 }
+      taken-of = record { checked = checked-of _ s a h e q; accepted = known-by (check s) (check s) h refl (sym e ∙ q) .1 }
 
       pub as-profile : (r : CheckAnswer) → r ≡ profileFrom h s (formOf s h) → r ≡ profile s
       as-profile r p =
-          let is = checked-of s a h e q .is in
+          let is = checked-of _ s a h e q .is in
           (rw is at p) ∙ known-by (check s) (profileFrom (headerOf s) s (normalForm s)) h refl (sym e ∙ q) .0

@@ -20,9 +20,9 @@ use Rattle.format.specs.declared.LookupAnswer.{LookupAnswer}
 use Rattle.format.specs.declared.LookupAnswer.the-variants.{Found as foundIn, Refused as lookupRefused}
 use Rattle.format.specs.declared.CheckAnswer.{CheckAnswer}
 use Rattle.format.specs.declared.CheckAnswer.the-variants.{Accepted, Refused as checkRefused}
-use Rattle.disk.specs.Split.{sourceIn, lookedUp, inAccepted, inImage}
+use Rattle.disk.specs.Split.{sourceIn, lookedUp, inAccepted}
 use Rattle.disk.specs.declared.SplitAnswer.{SplitAnswer}
-use Rattle.disk.specs.declared.SplitAnswer.the-variants.{Image, OtherFile, CapacityDiffers}
+use Rattle.disk.specs.declared.SplitAnswer.the-variants.{Image, CapacityDiffers}
 
 -- ---- at an arm of a match on what the lookup says
 module _ (i : ℕ) (looked : LookupAnswer) where
@@ -51,15 +51,10 @@ module _ (s : List ℕ) (e : Extent) (i o : ℕ) (judged : CheckAnswer) where
     unfolding inAccepted pick
     judged-differs n = rw (q, ne-eqb capacity (e .sectors) n)
 
--- ---- an image, whose check or whose first bytes were asked before
+-- ---- an image, whose check was asked before
 pub checked-image : (s : List ℕ) (e : Extent) (i o : ℕ) (z : SplitAnswer) (judged : CheckAnswer) → judged ≡ check s
     → z ≡ inAccepted s e i o judged → z ≡ inAccepted s e i o (check s)
 checked-image s e i o z judged q t = rw (← q) t
-
-pub image-of : {b : Bool} (other s : List ℕ) (e : Extent) (i o : ℕ) (z : SplitAnswer) → b ≡ sameAt s 0 other
-    → z ≡ pick b (OtherFile i) (inAccepted s e i o (check s)) → z ≡ inImage other s e i o
-unfolding inImage
-image-of other s e i o z q t = rw (← q) t
 
 -- ---- plain sectors
 pub plain-past : {r : Bool} (s : List ℕ) (offset sectors f : ℕ) → r ≡ ltb f (offset + sectors) → f ≡ fileSectors s

@@ -1,18 +1,15 @@
-// A virtual sector of one extent, whose file is a part of the lent slice: 39, 45, the image's own numbers, 38.
+// A virtual sector of one extent, whose file is a part of the lent slice: 39, 43, 45, the image's own numbers, 38.
 ghost use mathlib.Core.Path.{_≡_};
 ghost use Prim.Native.Nat.{_<_};
-ghost use Rattle.base.specs.Pick.{pick};
 ghost use Rattle.base.specs.Strings.{sameAt};
-ghost use Rattle.format.specs.Kdmv.{kdmvMagic};
 ghost use Rattle.format.specs.Cowd.{cowdMagic};
-ghost use Rattle.format.specs.Check.{check};
-ghost use Rattle.disk.specs.Split.{sourceIn, inZero, inPlain, lookedUp, inAccepted, byType, inExtent};
-ghost use Rattle.disk.specs.declared.SplitAnswer.the-variants.{OtherFile};
+ghost use Rattle.disk.specs.Split.{sourceIn, inZero, inPlain, lookedUp, inAccepted, inImage, byType, inExtent};
 use descriptor::Extent;
 use disk::SplitAnswer;
 use format::CheckAnswer;
 use format::LayerSource;
 use format::LookupAnswer;
+use format::Refusal;
 use format::Source;
 
 // Access and types of a record, as the descriptor's definitions number them.
@@ -90,27 +87,17 @@ fn begins_cowd(file: &[u8]) -> bool
     base::same_at(file, 0, b"COWD")
 }
 
-// The same of KDMV's.
-fn begins_kdmv(file: &[u8]) -> bool
-    ensures { λ r. ⌜ r ≡ sameAt (now (file .entry)) 0 kdmvMagic ⌝ }
+// A KDMV image.
+fn in_image(file: &[u8], e: Extent, i: u64, o: u64) -> SplitAnswer
+    ensures { λ r. ⌜ r ≡ inImage (now (file .entry)) e i o ⌝ }
 {
-    if file.len() < 4 {
-        return false;
-    }
-    base::same_at(file, 0, b"KDMV")
-}
-
-// An image, which `other` says begins with the other kind's magic.
-fn in_image(file: &[u8], e: Extent, i: u64, o: u64, other: bool) -> SplitAnswer
-    ensures { λ r.
-        ⌜ r ≡ pick other (OtherFile i) (inAccepted (now (file .entry)) e i o (check (now (file .entry)))) ⌝ }
-{
-    if other {
+    if begins_cowd(file) {
         return SplitAnswer::OtherFile(i);
     }
     in_accepted(file, e, i, o, accept::check(file))
 }
 
+// VMFSSPARSE, which is left, is COWD: its line alone is refused.
 fn by_type(file: &[u8], e: Extent, i: u64, o: u64) -> SplitAnswer
     requires { ⌜ o < e .sectors ⌝ }
     ensures { λ r. ⌜ r ≡ byType (now (file .entry)) e i o ⌝ }
@@ -122,9 +109,9 @@ fn by_type(file: &[u8], e: Extent, i: u64, o: u64) -> SplitAnswer
         return in_plain(file, e, i, o);
     }
     if e.kind == SPARSE {
-        return in_image(file, e, i, o, begins_cowd(file));
+        return in_image(file, e, i, o);
     }
-    in_image(file, e, i, o, begins_kdmv(file))
+    SplitAnswer::Image(i, Refusal::KindGone)
 }
 
 // Sector o of extent i, whose file this is.

@@ -1,6 +1,6 @@
 use Rattle.format.specs.Check.{checkApart}
-use Rattle.accept.proofs.Checked.{in-file}
 use Rattle.base.proofs.Steps.{steps}
+use borrow.Author.Needs.{needs}
 use Rattle.accept.proofs.check_apart.Statement.{statement}
 use Rattle.accept.proofs.check_apart.Tie as tie
 
@@ -9,6 +9,6 @@ unfolding checkApart
 check-apart-spec =
     tie.close
     (tie.spec
-    (λ areas-meet-requires κs. search in-file)
-    (λ c. rw (c .before .before .before .pre .left) (search steps))
-    (λ c. rw (c .before .before .before .pre .left) (search steps)))
+    (λ areas-meet-requires κs. search needs)
+    (λ returns. search steps)
+    (λ returns-2. search steps))

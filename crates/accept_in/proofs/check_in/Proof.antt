@@ -8,14 +8,14 @@ pub check-in-spec : {M : Type 1} → statement M
 check-in-spec =
     tie.close
     (tie.spec
-    (λ unmarked-requires κs. search needs)
+    (λ unmarked-of-requires κs. search needs)
     (λ enum-known-left. search needs)
     (λ unmarked-by-requires κs. search needs)
     (λ enum-known-left-2. search needs)
     (λ check-apart-in-requires κs. search left-known)
     (λ c.
     let j = c .before .before in
-    let t = lent-refused _ _ (j .before .before .unmarked .ensures) _ (j .left .given .1) _ _ (c .unmarked-by .ensures) in
+    let t = lent-refused _ _ (j .before .before .unmarked-of .ensures) _ (j .left .given .1) _ _ (c .unmarked-by .ensures) in
     (t .answer, t .kept))
     (λ same-length. search needs)
     (λ c. let t = c .before .before .check-apart-in .ensures in (t .answer, t .kept)))

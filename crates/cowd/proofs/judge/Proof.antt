@@ -11,6 +11,8 @@ judge-spec =
     tie.close
     (tie.spec
     (λ returns. search steps)
+    (λ kind-gone-requires κs. search needs)
+    (λ returns-2. search steps)
     (λ cowd-fields-requires κs. search needs)
     (λ cowd-fault-requires κs. search needs)
     (λ enum-known-fault. search needs)

@@ -9,15 +9,17 @@ pub move-to-spec : {M : Type 1} → statement M
 move-to-spec =
     tie.close
     (tie.spec
-    (λ accepted-requires κs. search needs)
+    (λ accepted-of-requires κs. search needs)
     (λ enum-known-judged. search needs)
     (λ enum-known-judged-2. search needs)
-    (λ c κs. checked-of _ _ _ (c .before .before .before .before .accepted .ensures) (c .before .before .judged2 .given .1))
-    (λ c. told-left (unknown-refused _ _ (c .before .before .before .accepted .ensures) _ _ _ _ (c .before .judged .given .1)))
+    (λ c κs.
+    checked-of _ _ _ _ (c .before .before .before .before .accepted-of .ensures) (c .before .before .judged2 .given .1))
+    (λ c.
+    told-left (unknown-refused _ _ _ (c .before .before .before .accepted-of .ensures) _ _ _ _ (c .before .judged .given .1)))
     (λ same-length. search needs)
     (λ c.
     let j = c .before .before .before .before .before in
     let a = j .before .before in
-    let k = checked-of _ _ _ (a .accepted .ensures) (j .judged2 .given .1) in
-    told-left (known-on _ _ (a .accepted .ensures) _ _ _ _ (j .judged2 .given .1)
+    let k = checked-of _ _ _ _ (a .accepted-of .ensures) (j .judged2 .given .1) in
+    told-left (known-on _ _ _ (a .accepted-of .ensures) _ _ _ _ (j .judged2 .given .1)
     (moved-as _ _ _ k _ (c .before .before .move-accepted .ensures)))))

@@ -1,12 +1,12 @@
-use Rattle.format.specs.Header.{judge}
+use Rattle.format.specs.Header.{judgeOf}
 use Rattle.base.proofs.Steps.{steps}
 use borrow.Author.Needs.{needs}
-use Rattle.header.proofs.judge.Statement.{statement}
-use Rattle.header.proofs.judge.Tie as tie
+use Rattle.header.proofs.judge_of.Statement.{statement}
+use Rattle.header.proofs.judge_of.Tie as tie
 
-pub judge-spec : {M : Type 1} → statement M
-unfolding judge
-judge-spec =
+pub judge-of-spec : {M : Type 1} → statement M
+unfolding judgeOf
+judge-of-spec =
     tie.close
     (tie.spec
     (λ returns. search steps depth 8)
