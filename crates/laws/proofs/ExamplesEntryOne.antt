@@ -1,4 +1,4 @@
--- Entry 1 by version and flag: the story of the damaged table, and a table and a grain that stand at sector 1.
+-- Entry 1 by kind, version and flag: the story of the damaged table, and a table and a grain that stand at sector 1.
 use Prim.Native.Nat.{ℕ, _+_, _*_}
 use mathlib.Core.List.{List, [], _∷_, _++_}
 use mathlib.Core.Path.{_≡_, refl}
@@ -11,22 +11,25 @@ use Rattle.base.specs.Bytes.{over, zeros}
 use Rattle.base.specs.Rows.{rows}
 use Rattle.format.specs.Geometry.{grains, directoryEntries, directorySectors}
 use Rattle.format.specs.Kdmv.{kdmvFields, kdmvFault}
-use Rattle.format.specs.Header.{kdmvOneIsZero, kdmvHeader, directoryOf, headerOf, unlessFault, withFooter, judgeKdmv, judgeOf}
+use Rattle.format.specs.Cowd.{cowdFields, cowdFault}
+use Rattle.format.specs.Header.{kdmvOneIsZero, kdmvHeader, cowdHeader, directoryOf, headerOf, unlessFault, withFooter}
+use Rattle.format.specs.Header.{judgeKdmv, kindGone, judgeCowd, judgeOf}
 use Rattle.format.specs.Entries.{meaning, inTable, entryOfGrain, grainSectors, anyBelow}
 use Rattle.format.specs.Areas.{ifThere, named, redundantTables, areas, runsPast, shares, sharesAny, meet}
 use Rattle.format.specs.Check.{misplaced, lowestFrom, copyDiffers, copiesDiffer, unlessGrain, checkApart, checkCopies}
-use Rattle.format.specs.Check.{checkGrains, checkLayout, checkFrom, check}
+use Rattle.format.specs.Check.{checkGrains, checkLayout, checkFrom, checkOf, check}
 use Rattle.format.specs.Source.{grainSource, lookupGrain, lookupEntry, lookupTable, lookupIn, lookupFrom, sectorLookup}
 use Rattle.format.specs.Chain.{unlike}
 use Rattle.format.specs.Grains.{upperUnlessAbsent, grainFrom, oneIfStored, storedBelow}
 use Rattle.format.specs.Layout.{tableCount, tablesAt, tablesEnd, sectorV, sectorsLaid}
 use Rattle.format.specs.Collapse.{ifAccepted, writtenIfRoom, normalFrom, normal, collapseFrom, collapse}
+use Rattle.format.specs.declared.Taken.the-variants.{Either}
 use Rattle.format.specs.declared.Source.the-variants.{Absent, Zero, Stored}
 use Rattle.format.specs.declared.Refusal.the-variants.{Flags, GrainPast, CopiesDiffer, SharedSector}
 use Rattle.format.specs.declared.CheckAnswer.the-variants.{Accepted, Refused}
 use Rattle.format.specs.declared.LookupAnswer.the-variants.{Found}
 use Rattle.format.specs.declared.CollapseAnswer.the-variants.{Written}
-use Rattle.laws.specs.Images.{joined, with, flaggedSector}
+use Rattle.laws.specs.Images.{joined, with, flaggedSector, cowdSectors}
 
 -- ---- images, by version and flags
 -- the directory at sector 1, the table at 2 with a 1 for grain 0; `long` sectors from 6 on
@@ -56,6 +59,10 @@ copied version flags primary redundant =
     ∷ leBytes 4 redundant
     ∷ zeros 508
     ∷ [])
+
+-- COWD at grain size 1: the directory at sector 4, the table at 5 with a 1 for the one grain
+abbrev old : List ℕ
+old = joined (cowdSectors 1 1 4 1 ∷ leBytes 4 5 ∷ zeros 508 ∷ leBytes 4 1 ∷ zeros 16380 ∷ [])
 
 -- ---- when entry 1 means zeros: both version and flag count
 abbrev zeroBy : ℕ → ℕ → Bool
@@ -93,6 +100,11 @@ pub at-one-checked :
     × (check (grained 3 1) ≡ Accepted 8 8)
 unfolding pick powerUpTo leAt leBytes sameAt zeros rows grains directoryEntries directorySectors kdmvFields kdmvFault kdmvHeader directoryOf unlessFault withFooter judgeKdmv judgeOf meaning inTable entryOfGrain grainSectors ifThere named redundantTables areas runsPast shares sharesAny meet misplaced lowestFrom copiesDiffer unlessGrain checkApart checkCopies checkGrains checkLayout checkFrom
 at-one-checked = (refl, refl, refl)
+
+-- in COWD, by the check that the moves keep: sector 1 is the header's
+pub old-checked : checkOf Either old ≡ Refused SharedSector
+unfolding pick powerUpTo leAt leBytes sameAt zeros rows grains directoryEntries directorySectors cowdFields cowdFault cowdHeader unlessFault kindGone judgeCowd judgeOf meaning inTable entryOfGrain grainSectors ifThere named redundantTables areas runsPast shares sharesAny meet misplaced lowestFrom copiesDiffer unlessGrain checkApart checkCopies checkGrains checkLayout checkFrom
+old-checked = refl
 
 -- ---- 11 goes by meaning
 pub copies-checked :
