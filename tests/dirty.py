@@ -45,9 +45,9 @@ def half(dirty=0, **fields):
     return small(8, 0, head=kdmv(dirty=dirty, **fields))
 
 
-def old(dirty=0):
+def old(dirty=0, **fields):
     """As COWD: the first grain at sector 37."""
-    return image(45, (0, cowd(dirty=dirty)), (4, entries(5)), (5, entries(37, 0)))
+    return image(45, (0, cowd(dirty=dirty, **fields)), (4, entries(5)), (5, entries(37, 0)))
 
 
 ZEROS = bytes(512)
@@ -63,9 +63,10 @@ alone("newline-beside", half(flags=0, newline=b"\xff \r\n"), 0, 21)
 # COWD's place is none of KDMV's
 alone("cowd-place-in-kdmv", image(16, (0, kdmv()), (1, entries(2)), (2, entries(8, 0)), (3, b"\xff" * 512)), 0, 21)
 
-# ---- COWD is 43, and no number of it is told (A13): tests/moves.py has its own place
-for number in (0, 1, 2**32 - 1):
-    refused(f"cowd-{number}", old(number), 43, (43, 0, 0, 0, 0, 0, 0))
+# ---- COWD is 43, after 1 and before 3, and its header tells no number (A13): tests/moves.py has where it stands
+for name, data, number in (("0", old(), 43), ("1", old(1), 43), ("all-ones", old(2**32 - 1), 43), ("2047", old(1)[:2047], 1),
+                           ("2048", old(1)[:2048], 43), ("version-2", old(1, version=2), 43)):
+    refused(f"cowd-{name}", data, number, (number, 0, 0, 0, 0, 0, 0))
 
 # ---- packed: 23 comes first, with a footer and without
 OPEN_PACKED = image(7, (0, kdmv(flags=0x10001, compression=1, dirty=1)), (1, entries(2)), (2, entries(6)), (6, marker(0, 5)))

@@ -96,18 +96,19 @@ disk("zero-with-a-byte", ("RW 1 ZERO", b"\0"), ("RW 1 ZERO", NONE), sectors={0: 
 disk("zero-with-a-sector", ("RW 1 ZERO", NONE), ("RW 1 ZERO", bytes(SECTOR)), sectors={0: zero(0), 1: bad(45, 1)})
 disk("zero-with-cowd", ("RW 4 ZERO", OLD), sectors={0: bad(45), 3: bad(45)})
 
-# ---- SPARSE: COWD's magic is 45, any other bytes the image's 2, fewer than four its 1
-for name, data, number in (("sound", OLD, 45), ("2047", OLD[:2047], 45), ("2048", OLD[:2048], 45), ("magic-alone", b"COWD", 45),
-                           ("version-2", cowd(4, 1, version=2), 45), ("three-bytes", b"COW", 1), ("other-case", b"cowd", 2)):
-    disk(f"cowd-as-sparse-{name}", ("RW 1 ZERO", NONE), ('RW 4 SPARSE "a"', data),
+# ---- SPARSE: COWD's magic is 45, whatever follows it; any other bytes are the image's 2, fewer than four its 1
+for name, data, number in (
+        ("cowd", OLD, 45), ("cowd-2047", OLD[:2047], 45), ("cowd-2048", OLD[:2048], 45), ("cowd-alone", b"COWD", 45),
+        ("cowd-version-2", cowd(4, 1, version=2), 45), ("three-bytes", b"COW", 1), ("no-bytes", NONE, 1),
+        ("kdmv-alone", b"KDMV", 1), ("other-case", b"cowd", 2), ("neither-magic", b"VMDK" + HALF[4:], 2)):
+    disk(f"sparse-{name}", ("RW 1 ZERO", NONE), ('RW 4 SPARSE "a"', data),
          sectors={0: zero(0), 1: bad(number, 1), 4: bad(number, 1), 5: bad(20)})
-disk("neither-magic", ('RW 4 SPARSE "a"', b"VMDK" + HALF[4:]), ('RW 4 SPARSE "b"', NONE), sectors={0: bad(2), 4: bad(1, 1)})
-disk("own-magic-alone", ('RW 4 SPARSE "a"', b"KDMV"), sectors={0: bad(1)})
 
 # ---- VMFSSPARSE: 43 by the line alone (A13), whatever the file holds, and whether its sectors are the line's
-for name, data in (("sound", OLD), ("2047", OLD[:2047]), ("magic-alone", b"COWD"), ("three-bytes", b"COW"), ("no-bytes", NONE),
-                   ("version-2", cowd(4, 1, version=2)), ("table-on-header", image(38, (0, cowd(4, 1)), (4, entries(1)))),
-                   ("kdmv", small(8, 0, head=kdmv(4))), ("kdmv-magic-alone", b"KDMV"), ("other-magic", b"VMDK" + OLD[4:])):
+for name, data in (
+        ("cowd", OLD), ("cowd-2047", OLD[:2047]), ("cowd-alone", b"COWD"), ("cowd-version-2", cowd(4, 1, version=2)),
+        ("cowd-table-on-header", image(38, (0, cowd(4, 1)), (4, entries(1)))), ("three-bytes", b"COW"), ("no-bytes", NONE),
+        ("kdmv", small(8, 0, head=kdmv(4))), ("kdmv-alone", b"KDMV"), ("neither-magic", b"VMDK" + OLD[4:])):
     disk(f"vmfssparse-{name}", ("RW 1 ZERO", NONE), ('RW 4 VMFSSPARSE "a"', data), ('RDONLY 5 vmfsSparse "b"', data),
          sectors={0: zero(0), 1: bad(43, 1), 4: bad(43, 1), 5: bad(43, 2), 9: bad(43, 2), 10: bad(20)})
 # it comes after the descriptor's numbers, 24 and 20, and is the sector's own extent's alone
