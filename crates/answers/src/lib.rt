@@ -22,6 +22,7 @@ use format::Verdict;
 use format::Written;
 
 pub mod repairs;
+pub mod steps;
 
 // The number of a part that 8 names.
 fn part_number(part: MisplacedPart) -> u64

@@ -88,8 +88,8 @@ cond-all P true x y f g = f refl
 cond-all P false x y f g = g refl
 
 -- two chains over the same tests
-pub pick-both : {A : Type 0} (P : A → A → Type 0) (b : Bool) (x y v w : A) → (b ≡ true → P x v) → (b ≡ false → P y w)
-    → P (pick b x y) (pick b v w)
+pub pick-both : {A B : Type 0} (P : A → B → Type 0) (b : Bool) (x y : A) (v w : B) → (b ≡ true → P x v)
+    → (b ≡ false → P y w) → P (pick b x y) (pick b v w)
 unfolding pick
 pick-both P true x y v w f g = f refl
 pick-both P false x y v w f g = g refl

@@ -13,6 +13,7 @@ use Rattle.exports.proofs.anhkhovet_check as check
 use Rattle.exports.proofs.anhkhovet_check_in as checkIn
 use Rattle.exports.proofs.anhkhovet_header as header
 use Rattle.exports.proofs.anhkhovet_lookup as lookup
+use Rattle.exports.proofs.anhkhovet_steps as steps
 use Rattle.exports.proofs.anhkhovet_chain as chain
 use Rattle.exports.proofs.anhkhovet_read as read
 use Rattle.exports.proofs.anhkhovet_frame as frame
@@ -135,6 +136,9 @@ header-determined = answered header.ended _ (λ κs a. (tt, tt)) (λ κs a ws. r
 
 pub lookup-determined : Determined lookup.ended (λ M. lookup.spec)
 lookup-determined = answered lookup.ended _ (λ κs a. (tt, (tt, tt))) (λ κs a ws. refl)
+
+pub steps-determined : Determined steps.ended (λ M. steps.spec)
+steps-determined = answered steps.ended _ (λ κs a. (tt, (tt, tt))) (λ κs a ws. refl)
 
 pub chain-determined : Determined chain.ended (λ M. chain.spec)
 chain-determined = answered chain.ended _ (λ κs a. (tt, (tt, (tt, tt)))) (λ κs a ws. refl)

@@ -6,6 +6,7 @@ ghost use Rattle.format.specs.Check.{check};
 ghost use Rattle.format.specs.CheckIn.{checkIn, listAfterCheck};
 ghost use Rattle.format.specs.Frame.{frame, frameList};
 ghost use Rattle.format.specs.Source.{sectorLookup, answerPart};
+ghost use Rattle.format.specs.Way.{lookupSteps};
 ghost use Rattle.format.specs.Chain.{chainLookup};
 ghost use Rattle.format.specs.Collapse.{normal, normalOutput, collapse, collapseOutput};
 ghost use Rattle.format.specs.Moves.{toKdmv, toKdmvOutput, toCowd, toCowdOutput};
@@ -21,6 +22,7 @@ use format::Part;
 use format::Verdict;
 use format::Written;
 use format::closing::Closed;
+use format::steps::Steps;
 
 mod extents;
 mod lists;
@@ -52,6 +54,13 @@ pub extern "C" fn anhkhovet_lookup(image: &[u8], sector: u64) -> Located
     ensures { λ r. ⌜ r ≡ located (sectorLookup (now (image .entry)) sector) ⌝ }
 {
     answers::located_of(lookup::lookup(image, sector))
+}
+
+#[no_mangle]
+pub extern "C" fn anhkhovet_steps(image: &[u8], sector: u64) -> Steps
+    ensures { λ r. ⌜ r ≡ lookupSteps (now (image .entry)) sector ⌝ }
+{
+    answers::steps::steps_of(way::way(image, sector), lookup::lookup(image, sector))
 }
 
 #[no_mangle]

@@ -41,6 +41,8 @@ use Rattle.format.specs.declared.Head.{Head}
 use Rattle.format.specs.declared.closing.CloseAnswer.{CloseAnswer}
 use Rattle.format.specs.declared.closing.CloseAnswer.the-variants.{Closed as closedIn, Refused as closeRefused}
 use Rattle.format.specs.declared.closing.Closed.{Closed}
+use Rattle.format.specs.declared.steps.Way.{Way}
+use Rattle.format.specs.declared.steps.Steps.{Steps}
 use Rattle.format.specs.declared.Side.{Side}
 use Rattle.format.specs.declared.Side.the-variants.{Primary, Redundant}
 
@@ -163,6 +165,25 @@ located (lookupRefused r) = unserved 0 r
 abbrev pub chained : ChainAnswer → Located
 chained (foundIn a) = served (a .layer) (a .source)
 chained (chainRefused layer r) = unserved layer r
+
+-- ---- the way to a lookup's answer, and the answer: 1 where entry 1 means zeros
+abbrev pub stepsNumbers : Way → LookupAnswer → Steps
+stepsNumbers w a =
+    let told = located a in
+    record {
+      number = told .number;
+      place = told .place;
+      «one_is_zero» = pick (w .«one_is_zero») 1 0;
+      grain = w .grain;
+      «directory_at» = w .«directory_at»;
+      «directory_entry» = w .«directory_entry»;
+      «table_at» = w .«table_at»;
+      «table_entry» = w .«table_entry»;
+      kind = told .kind;
+      sector = told .sector;
+      size = told .size;
+      offset = told .offset;
+    }
 
 -- ---- collapse and normal form: the result's length in bytes
 abbrev pub written : CollapseAnswer → Written

@@ -18,6 +18,7 @@ pub mod Stream
 pub mod Tail
 pub mod Close
 pub mod Answers
+pub mod Way
 pub mod Survey
 pub mod CheckIn
 pub mod Mend

@@ -1,5 +1,6 @@
 // The types that all calls pass round. What they mean is document 01, section by section, in specs/.
 pub mod closing;
+pub mod steps;
 
 // Sector 0 of a KDMV image, field by field.
 pub struct KdmvFields {

@@ -20,6 +20,7 @@ use Rattle.format.specs.Check.{misplaced, lowestFrom, copyDiffers, copiesDiffer
 use Rattle.format.specs.Check.{checkGrains, checkLayout, checkFrom, check}
 use Rattle.format.specs.Source.{grainSource, lookupGrain, lookupEntry, lookupTable, lookupIn, lookupFrom, sectorLookup}
 use Rattle.format.specs.Source.{answerPart}
+use Rattle.format.specs.Way.{noWay, toDirectory, toTable, wayTable, wayIn, wayFrom, lookupSteps}
 use Rattle.format.specs.Chain.{lengthsSum, unlike, ifKnown, headersDown, unlessAbsent, walkDown, walk, chainLookup}
 use Rattle.format.specs.Grains.{upperUnlessAbsent, grainFrom, oneIfStored, storedBelow}
 use Rattle.format.specs.Layout.{tableCount, tablesAt, tablesEnd, sectorV, sectorsLaid}
@@ -34,6 +35,7 @@ use Rattle.format.specs.declared.Head.{Head}
 use Rattle.format.specs.declared.Verdict.{Verdict}
 use Rattle.format.specs.declared.Marked.{Marked}
 use Rattle.format.specs.declared.Located.{Located}
+use Rattle.format.specs.declared.steps.Steps.{Steps}
 use Rattle.format.specs.declared.Part.{Part}
 use Rattle.format.specs.declared.Written.{Written}
 use Rattle.format.specs.declared.Framed.{Framed}
@@ -83,6 +85,12 @@ pub lookup-varies : (r : Located) → ((s : List ℕ) (x : ℕ) → r ≡ locate
 unfolding pick powerUpTo leAt leBytes sameAt zeros directoryEntries directorySectors kdmvFields kdmvFault kdmvHeader directoryOf unlessFault withFooter judgeKdmv judgeOf meaning grainSectors grainSource lookupGrain lookupEntry lookupTable lookupIn lookupFrom
 lookup-varies r same =
     differ (λ s. located (sectorLookup s 0)) (λ (v : Located). v .kind) (small 6 0 0 8) 2 (omega arith) refl refl r
+    (λ s. same s 0)
+
+pub steps-varies : (r : Steps) → ((s : List ℕ) (x : ℕ) → r ≡ lookupSteps s x) → ⊥
+unfolding pick powerUpTo leAt leBytes sameAt zeros directoryEntries directorySectors kdmvFields kdmvFault kdmvHeader directoryOf unlessFault withFooter judgeKdmv judgeOf meaning grainSectors grainSource lookupGrain lookupEntry lookupTable lookupIn lookupFrom noWay toDirectory toTable wayTable wayIn wayFrom
+steps-varies r same =
+    differ (λ s. lookupSteps s 0) (λ (v : Steps). v .«table_entry») (small 6 0 0 8) 6 (omega arith) refl refl r
     (λ s. same s 0)
 
 -- its 512 bytes
