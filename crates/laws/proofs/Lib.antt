@@ -112,3 +112,4 @@ pub mod NotConstantClose
 pub mod NeverUsedClose
 pub mod ClosedCount
 pub mod KindGone
+pub mod MovedDecides

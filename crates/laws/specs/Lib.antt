@@ -16,3 +16,4 @@ pub mod MovedImages
 pub mod ProfileImages
 pub mod Closed
 pub mod CowdFile
+pub mod SameCowd
