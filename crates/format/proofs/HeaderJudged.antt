@@ -54,7 +54,7 @@ unfolding unlessFault
 no-fault f a e = rw e
 
 -- an image has one magic
-one-magic : (s : List ℕ) → sameAt s 0 cowdMagic ≡ true → sameAt s 0 kdmvMagic ≡ false
+pub one-magic : (s : List ℕ) → sameAt s 0 cowdMagic ≡ true → sameAt s 0 kdmvMagic ≡ false
 unfolding sameAt
 one-magic s e =
     let first : getD s 0 0 ≡ 0x43 = eqb-true _ _ (and-yes (eqb (getD s 0 0) 0x43) _ e .0) in rw first

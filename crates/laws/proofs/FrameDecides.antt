@@ -86,23 +86,21 @@ groups s t h all =
       last = g .1;
     }
 
--- ---- a directory whose sectors agree, and whose tables do
+-- ---- a directory whose entries in use agree, and whose tables do
 module _ (s t : List ℕ) (h : Header) (sound : Sound h) (directory : ℕ)
-    (own : SameBytes s t (512 * directory) (512 * h .«directory_sectors»))
+    (own : SameBytes s t (512 * directory) (4 * directoryEntriesOf h))
     (tables : SameAreas s t (tableAreas s (h .«one_is_zero») (h .«table_sectors») directory (directoryEntriesOf h))) where
-  entry : (u sectors k : ℕ) → SameBytes s t (512 * u) (512 * sectors) → 4 * k + 4 ≤ 512 * sectors
-      → entryAt s u k ≡ entryAt t u k
-  entry u sectors k same l =
-      number-same s t (512 * u + 4 * k) 4
-      (within s t (512 * u) (512 * sectors) (512 * u + 4 * k) 4 same (omega arith) (omega arith))
+  entry : (u n k : ℕ) → SameBytes s t (512 * u) n → 4 * k + 4 ≤ n → entryAt s u k ≡ entryAt t u k
+  entry u n k same l =
+      number-same s t (512 * u + 4 * k) 4 (within s t (512 * u) n (512 * u + 4 * k) 4 same (omega arith) (omega arith))
 
-  tables-decide : SameTables s t h directory
+  pub tables-decide : SameTables s t h directory
   tables-decide = record {
-    entries = λ i d l. entry directory (h .«directory_sectors») d own (omega (arith, sound .directory));
+    entries = λ i d l. entry directory (4 * directoryEntriesOf h) d own (omega arith);
     tables = λ d u l e i k b.
         let row =
         areas-row s t _ (λ j. named (λ x. h .«table_sectors») (meaningAt s (h .«one_is_zero») directory j)) tables d l in
-        entry u (h .«table_sectors») k (area-named s t (λ x. h .«table_sectors») u (rw e at row)) (omega (arith, sound .table));
+        entry u _ k (area-named s t (λ x. h .«table_sectors») u (rw e at row)) (omega (arith, sound .table));
   }
 
 -- ---- all that decides lies in the frame and the markers
@@ -139,10 +137,12 @@ module _ (s t : List ℕ) (both : SameFrame s t) where
       let sound = sound-of s h known in
       record {
         long = both .long;
-        primary = tables-decide s t h sound (h .directory) (parts .directory .0) (parts .tables);
+        primary = tables-decide s t h sound (h .directory)
+            (within s t _ _ _ _ (parts .directory .0) (omega arith) (omega (arith, sound .directory))) (parts .tables);
         copies = λ two.
             tables-decide s t h sound (h .redundant)
-            (area-there s t _ _ (parts .redundant) (rw (ne-eqb (h .redundant) 0 two)))
+            (within s t _ _ _ _ (area-there s t _ _ (parts .redundant) (rw (ne-eqb (h .redundant) 0 two))) (omega arith)
+            (omega (arith, sound .directory)))
             (rw (redundant-tables s h two) at (parts .copies));
         markers = λ p g e l q i.
             let same = both .markers p g e l q i in (

@@ -5,12 +5,12 @@ use mathlib.Core.List.{List}
 use mathlib.Core.Bool.{true, false}
 use mathlib.Core.Logic.{⊎-elim}
 use native.Mathlib.Omega.{arith}
-use lib.Dec.{ltb, eqb}
+use lib.Dec.{ltb}
 use lib.ListN.{length, getD}
-use borrow.Author.Tests.{le-ltb, eqb-true}
+use borrow.Author.Tests.{le-ltb}
 use Rattle.base.specs.Pick.{pick}
 use Rattle.base.specs.Strings.{sameAt}
-use Rattle.base.proofs.Steps.{and-yes, lt-or-ge}
+use Rattle.base.proofs.Steps.{lt-or-ge}
 use Rattle.base.proofs.Strings.{bytes-same}
 use Rattle.descriptor.specs.Extents.{NOACCESS, VMFSSPARSE}
 use Rattle.descriptor.specs.Descriptor.{noExtent}
@@ -45,17 +45,13 @@ use Rattle.format.specs.declared.CollapseAnswer.the-variants.{Refused as unwrit
 use Rattle.format.specs.declared.FrameAnswer.the-variants.{Refused as unlisted}
 use Rattle.format.specs.declared.MendAnswer.the-variants.{Refused as unmended}
 use Rattle.format.specs.declared.closing.CloseAnswer.the-variants.{Refused as unclosed}
+use Rattle.format.proofs.HeaderJudged.{one-magic}
 use Rattle.format.proofs.Picked.{pick-then, pick-else}
 use Rattle.disk.specs.Split.{splitLengthsBroken, extentsOf, split}
 use Rattle.disk.specs.declared.SplitAnswer.the-variants.{Image}
 use Rattle.laws.specs.CowdFile.{CowdFile}
 use Rattle.laws.proofs.ExtentsLaid.{sectorsOf}
 use Rattle.laws.proofs.SplitServed.{one-extent, split-answer, vmfssparse-gone}
-
--- an image has one magic
-one-magic : (s : List ℕ) → sameAt s 0 cowdMagic ≡ true → sameAt s 0 kdmvMagic ≡ false
-unfolding sameAt
-one-magic s e = let first : getD s 0 0 ≡ 0x43 = eqb-true _ _ (and-yes (eqb (getD s 0 0) 0x43) _ e .0) in rw first
 
 -- ---- one image
 module _ (s : List ℕ) (c : CowdFile s) where

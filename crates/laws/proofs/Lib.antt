@@ -113,3 +113,4 @@ pub mod NeverUsedClose
 pub mod ClosedCount
 pub mod KindGone
 pub mod StepsTold
+pub mod MovedDecides

@@ -44,13 +44,14 @@ one-same s t u v c size d other g (Sector e) Absent = refl
 one-same s t u v c size d other g a Zero = refl
 one-same s t u v c size d other g a (Sector e) = refl
 
-below-same : (m k : Map) (n : ℕ) → ((g : ℕ) → g < n → oneIfStored (m g) ≡ oneIfStored (k g)) → storedBelow m n ≡ storedBelow k n
+pub below-same : (m k : Map) (n : ℕ) → ((g : ℕ) → g < n → oneIfStored (m g) ≡ oneIfStored (k g))
+    → storedBelow m n ≡ storedBelow k n
 unfolding storedBelow
 below-same m k zero e = refl
 below-same m k (suc n) e = rw (below-same m k n (λ g b. e g (omega arith)), e n (omega arith))
 
 -- ---- what an answer leaves open
-if-same : (a : CheckAnswer) (x y : CollapseAnswer) → ((c size : ℕ) → a ≡ Accepted c size → x ≡ y)
+pub if-same : (a : CheckAnswer) (x y : CollapseAnswer) → ((c size : ℕ) → a ≡ Accepted c size → x ≡ y)
     → ifAccepted a x ≡ ifAccepted a y
 unfolding ifAccepted
 if-same (unaccepted r) x y f = refl

@@ -17,3 +17,4 @@ pub mod ProfileImages
 pub mod Closed
 pub mod CowdFile
 pub mod Reached
+pub mod SameCowd
