@@ -5,7 +5,7 @@
 // 3 a text's extents, and which of them hold the sectors; 4 which of 32 records in the bytes hold the sectors; 5 the lookup and
 // the grain reader alone; 6 the frame; 7 the survey; 8 the lookup in a disk of several files, whose text the first length has;
 // 9 the check in a lent list; 10 mending, whose good side and room for words are the lengths; 11 both moves; 12 the profile;
-// 13 closing. The room is the length of the output, of the list or of the copy that is mended.
+// 13 closing; 14 the lookup's steps. The room is the length of the output, of the list or of the copy that is mended.
 ghost use Prim.Native.Nat.{_≤_, _<_};
 ghost use lib.ListN.{length};
 use libc::STDIN_FILENO;
@@ -74,6 +74,10 @@ fn ask_sector(what: u64, lengths: &[u8], bytes: &[u8], sector: u64)
     }
     if what == 8 {
         cases_disks::look(bytes, lengths, sector);
+        return;
+    }
+    if what == 14 {
+        cases_images::steps(bytes, sector);
         return;
     }
     cases_images::look(bytes, sector);

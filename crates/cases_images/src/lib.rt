@@ -46,6 +46,25 @@ pub fn look(image: &[u8], sector: u64) {
     programs::end();
 }
 
+// The lookup's steps: its answer among what stands on the way to it.
+pub fn steps(image: &[u8], sector: u64) {
+    let told = answers::steps::steps_of(way::way(image, sector), lookup::lookup(image, sector));
+    programs::start(b"steps ");
+    programs::put(told.number);
+    programs::put(told.place);
+    programs::put(told.one_is_zero);
+    programs::put(told.grain);
+    programs::put(told.directory_at);
+    programs::put(told.directory_entry);
+    programs::put(told.table_at);
+    programs::put(told.table_entry);
+    programs::put(told.kind);
+    programs::put(told.sector);
+    programs::put(told.size);
+    programs::put(told.offset);
+    programs::end();
+}
+
 // The chain lookup in at most 17 layers, which is one too many.
 pub fn look_down(layers: &[u8], lengths: &[u8], sector: u64)
     requires { ⌜ length (now lengths) ≤ 136 ⌝ }
