@@ -2,6 +2,7 @@
 
 mod answers;
 pub mod cases;
+pub mod cowd;
 mod dirty;
 mod disks;
 pub mod far;
