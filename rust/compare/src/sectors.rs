@@ -16,11 +16,7 @@ impl Run<'_> {
             &sector,
         );
         self.count_located(Call::Lookup, answers[1]);
-        self.count_cowd(
-            Call::Lookup,
-            [answers[1].number, answers[1].place],
-            image,
-        );
+        self.count_cowd(Call::Lookup, [answers[1].number, answers[1].place], image);
         self.count_past(Call::Lookup, answers[1].number, image, sector);
         self.count_met(Call::Lookup, answers[1], image);
         self.count_source(Call::Lookup, answers[1], image, sector);

@@ -119,7 +119,7 @@ fn frames_have_what_was_built() {
 #[test]
 fn checks_in_a_list_mark_what_was_built() {
     let mut met = 0;
-    for case in 0..600 {
+    for case in 0..700 {
         let rng = &mut Rng::new(13, case);
         let mut built = sound(rng, suited(any(100), case));
         let sum: u64 = built.areas.iter().map(|area| area.sectors).sum();

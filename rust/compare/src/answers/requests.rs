@@ -8,7 +8,8 @@ const MOVES: &[Call] = &[ToKdmv, ToCowd];
 
 /// The calls that refuse COWD; the reader, which gives no number, does too.
 pub const REFUSE_COWD: &[Call] = &[
-    Check, CheckIn, Profile, Header, Lookup, Chain, Frame, Survey, Mend, Normal, Collapse, Close, Split,
+    Check, CheckIn, Profile, Header, Lookup, Chain, Frame, Survey, Mend, Normal, Collapse, Close,
+    Split,
 ];
 
 /// Those that judge its bytes and not the line of a descriptor.
@@ -18,7 +19,8 @@ const OF_COWD: &[Call] = &[
 
 /// The same and the moves.
 const ALL_OF_COWD: &[Call] = &[
-    Check, CheckIn, Profile, Header, Lookup, Chain, Frame, Survey, Mend, Normal, Collapse, Close, ToKdmv, ToCowd,
+    Check, CheckIn, Profile, Header, Lookup, Chain, Frame, Survey, Mend, Normal, Collapse, Close,
+    ToKdmv, ToCowd,
 ];
 
 /// Kinds of answers, with the calls that can give them.
