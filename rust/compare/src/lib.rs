@@ -11,7 +11,7 @@ mod image;
 mod lists;
 pub mod marks;
 pub mod mends;
-mod moves;
+pub mod moves;
 mod ones;
 pub mod pairs;
 pub mod places;
