@@ -3,6 +3,8 @@
 mod common;
 #[path = "common/cowd.rs"]
 mod cowd;
+#[path = "common/disks.rs"]
+mod disks;
 #[path = "common/faulty.rs"]
 mod faulty;
 #[path = "common/parts.rs"]
@@ -12,10 +14,12 @@ mod single;
 
 use common::{kdmv, put32, set};
 use cowd::cowd;
+use disks::{ask, refused, stored, text, zeros};
 use faulty::{faulty, mixed, stream};
 use parts::put_entries;
-use plain::{chain, check, collapse, header, normal, survey, to_kdmv, Refusal, Surveyed};
-use single::{assert_all, assert_each};
+use plain::{chain, check, collapse, descriptor, header, normal, survey, to_kdmv};
+use plain::{Refusal, Surveyed};
+use single::{assert_all, assert_none};
 
 /// What survey's lists hold before a call.
 const HELD: u64 = 0x0123_4567_89ab_cdef;
@@ -106,13 +110,13 @@ fn after_1_and_2() {
 fn kdmv_is_never_43() {
     for (number, image) in (1..).zip(faulty()) {
         assert_eq!(check(&image).number, number);
-        assert_each(&image, |found| found != 43);
+        assert_none(&image, 43);
     }
     // What stands at COWD's places in the first 2,048 bytes is nothing to it.
     let mut image = mixed();
     put32(&mut image, 1648, u32::MAX);
     assert_eq!((check(&image).number, header(&image).dirty), (0, 0));
-    assert_each(&image, |found| found != 43);
+    assert_none(&image, 43);
 }
 
 #[test]
@@ -186,4 +190,37 @@ fn rows_and_tally_of_a_survey() {
     assert_eq!((tally[0], tally[42]), (1, refused as u64));
     assert_eq!(tally[..63].iter().sum::<u64>(), 1 + refused as u64);
     assert_eq!(tally[63], HELD);
+}
+
+#[test]
+fn lines_of_a_split_disk() {
+    let lines = [
+        "RW 3 ZERO",
+        "RW 20 VMFSSPARSE \"c\"",
+        "noaccess 20 vmfssparse \"c\"",
+        "RW 20 SPARSE \"c\"",
+        "RW 20 FLAT \"c\" 1",
+        "RDONLY 21 VMFSSPARSE \"c\"",
+    ];
+    // The text is read as before, so that the refusal names the extent.
+    let (described, extents) = descriptor(text(&lines).as_bytes(), 6);
+    assert_eq!((described.number, described.extents), (0, 6));
+    assert_eq!([1, 2, 5].map(|line: usize| extents[line].kind), [4; 3]);
+    // Whatever stands under the VMFSSPARSE lines: COWD, KDMV, nothing, any bytes; a COWD file anywhere else is no 43.
+    for file in [old(), kdmv(20, 8, 6), vec![], b"COWD".to_vec(), vec![7; 9]] {
+        for cowd in images().iter().filter(|image| image.len() >= 21 * 512) {
+            let files: [&[u8]; 6] = [b"", &file, &file, cowd, cowd, &file];
+            assert_eq!(ask(&lines, &files, 2), zeros(0));
+            for (sector, expected) in [(3, (43, 1, 0)), (22, (43, 1, 0)), (23, (39, 2, 0))] {
+                assert_eq!(refused(&lines, &files, sector), expected);
+            }
+            for (sector, expected) in [(43, (45, 3, 0)), (83, (43, 5, 0)), (104, (20, 0, 0))] {
+                assert_eq!(refused(&lines, &files, sector), expected);
+            }
+            assert_eq!(ask(&lines, &files, 63), stored(4, 1));
+        }
+    }
+    // Under SPARSE four bytes are enough for 45; the lengths come before the line.
+    assert_eq!(refused(&lines[3..4], &[b"COWD"], 0), (45, 0, 0));
+    assert_eq!(refused(&lines[1..2], &[b"", b""], 0), (24, 0, 0));
 }
