@@ -2,8 +2,8 @@
 """Writes the inputs that the program `vmdk_check` is run on, and the line that it must print for each: tests/checks/NAME and
 NAME.line. checks.py [FOLDER] writes them below another folder than tests.
 
-Each verdict is document 01's with requests A2 and A8, written down by hand: a case at least for each refusal number that the
-program can give, both sides of each edge.
+Each verdict is document 01's with requests A2, A8 and A13, written down by hand: a case at least for each refusal number that
+the program can give, both sides of each edge.
 """
 from asked import main
 from images import (ALL_ONES, FOOTER, PACKED, STREAM, STREAMED, ZEROED, at_one, cowd, entries, image, kdmv, marker, outside,
@@ -29,13 +29,11 @@ def refused(name, data, number, place=0):
 refused("empty", b"", 1)
 refused("three-bytes", b"KDM", 1)
 refused("kdmv-511", kdmv()[:511], 1)
-refused("cowd-2047", cowd()[:2047], 1)
 refused("other-magic", b"VMDK" + bytes(4092), 2)
 refused("version-0", small(0, 0, head=kdmv(version=0)), 3)
 accepted("version-3", small(0, 0, head=kdmv(version=3)))
 refused("version-before-newline", small(0, 0, head=kdmv(version=0, newline=b"\r \n\n")), 3)
 refused("version-4", small(0, 0, head=kdmv(version=4)), 3)
-refused("cowd-version-2", image(37, (0, cowd(version=2)), (4, entries(5))), 3)
 refused("newline", small(0, 0, head=kdmv(newline=b"\r \n\n")), 4)
 accepted("newline-not-tested", small(0, 0, head=kdmv(newline=b"\r \n\n", flags=0)))
 refused("newline-before-flags", small(0, 0, head=kdmv(newline=b"\r \n\n", flags=9)), 4)
@@ -52,14 +50,7 @@ refused("capacity-high", small(0, 0, head=kdmv(2**31 + 1)), 6)
 for size in (4, 12, 4096):
     refused(f"grain-size-{size}", small(0, 0, head=kdmv(size=size)), 6)
 refused("entries-511", small(0, 0, head=kdmv(entries=511)), 6)
-refused("cowd-count-low", image(64, (0, cowd(4097, 1, count=1))), 6)
-refused("cowd-capacity-0", image(64, (0, cowd(0))), 6)
-accepted("cowd-capacity-most", image(6, (0, cowd(2**31, 2048, count=256))), 2**31, 2048)
-refused("cowd-capacity-high", image(7, (0, cowd(2**31 + 1, 2048, count=257))), 6)
-for size in (0, 3, 4096):
-    refused(f"cowd-grain-size-{size}", image(64, (0, cowd(size=size))), 6)
 accepted("not-judged", small(8, 0, head=kdmv(overhead=2**64 - 1, dirty=1, padding=255)))
-accepted("cowd-not-judged", image(64, (0, cowd(flags=2**32 - 1)), (4, entries(5))))
 accepted("stream", stream())
 refused("sizes-before-footer", stream(head=kdmv(0, directory=ALL_ONES, **STREAMED)), 6)
 refused("stream-cut", stream()[:-1], 7)
@@ -67,6 +58,21 @@ refused("stream-last-byte", stream(last=bytes(511) + b"\1"), 7)
 refused("stream-footer-byte", stream(footer=FOOTER[:511] + b"\1"), 7)
 refused("stream-again", stream(footer=STREAM), 7)
 refused("footer-before-places", stream(footer=FOOTER[:56] + bytes(8) + FOOTER[64:], last=b"\1"), 7)
+
+# ---- COWD: 43, after 1 and 2, before 3 and whatever else it has; its own rules are the moves'
+refused("cowd", image(64, (0, cowd(16, 8)), (4, entries(5)), (5, entries(48, 56))), 43)
+refused("cowd-magic-alone", b"COWD", 1)
+refused("cowd-2047", cowd()[:2047], 1)
+refused("cowd-2048", cowd(), 43)
+refused("cowd-magic-but-a-bit", b"COWE" + cowd()[4:], 2)
+refused("cowd-magic-and-zeros", b"COWD" + bytes(2044), 43)
+refused("cowd-version-2", image(37, (0, cowd(version=2)), (4, entries(5))), 43)
+refused("cowd-count-low", image(64, (0, cowd(4097, 1, count=1))), 43)
+refused("cowd-directory-0", image(37, (0, cowd(directory=0))), 43)
+refused("cowd-grain-past", image(64, (0, cowd()), (4, entries(5)), (5, entries(48, 57))), 43)
+refused("cowd-grain-on-header", image(64, (0, cowd(4, 1)), (4, entries(5)), (5, entries(1))), 43)
+refused("cowd-full-buffer", image(128, (0, cowd())), 43)
+refused("cowd-over-full", image(128, (0, cowd()), extra=1), 37)
 
 # ---- 8
 refused("descriptor-no-sector", small(0, 0, head=kdmv(descriptor=(0, 1))), 8, 1)
@@ -86,9 +92,6 @@ refused("redundant-past", small(0, 0, head=kdmv(redundant=16)), 8, 3)
 accepted("table-at-end", image(6, (0, kdmv()), (1, entries(2))))
 refused("table-past", image(6, (0, kdmv()), (1, entries(3))), 8, 4)
 refused("redundant-table-past", image(16, (0, kdmv(redundant=6)), (1, entries(2)), (6, entries(13))), 8, 5)
-accepted("cowd-table-at-end", image(37, (0, cowd(4, 1)), (4, entries(5))), 4, 1)
-refused("cowd-table-past", image(36, (0, cowd(4, 1)), (4, entries(5))), 8, 4)
-accepted("cowd-unused-directory-entry", image(37, (0, cowd(4, 1, count=2)), (4, entries(5, 2**32 - 1))), 4, 1)
 accepted("directory-entry-1", image(2, (0, zeroed()), (1, entries(1))))
 
 refused("places-before-grains", small(9, 0, head=kdmv(descriptor=(6, 11))), 8, 1)
@@ -143,7 +146,6 @@ refused("two-grains-on-one", small(8, 8), 12)
 refused("grains-overlap", small(8, 15, sectors=23), 12)
 accepted("grains-touch", small(8, 16, sectors=24))
 refused("grain-on-table", small(4, 0), 12)
-refused("grain-on-header", image(64, (0, cowd(4, 1)), (4, entries(5)), (5, entries(1))), 12)
 refused("table-twice", image(16, (0, kdmv(8192 * 8, 8)), (1, entries(2, 2))), 12)
 refused("redundant-is-primary", small(0, 0, head=kdmv(redundant=1)), 12)
 refused("redundant-table-is-primary", copied(entries(16, 1), b"", redundant=entries(2)), 12)
@@ -152,8 +154,6 @@ refused("descriptor-on-grain", small(8, 0, head=kdmv(descriptor=(15, 1))), 12)
 refused("footer-shared", streamed(descriptor=(7, 1)), 12)
 refused("last-sector-shared", streamed(descriptor=(8, 1)), 12)
 accepted("unused-entry", small(8, 0, 2**32 - 1))
-accepted("cowd", image(64, (0, cowd(16, 8)), (4, entries(5)), (5, entries(48, 56))))
-refused("cowd-grain-in-table", image(64, (0, cowd(16, 8)), (4, entries(5)), (5, entries(36, 56))), 12)
 
 # ---- an entry of 1 in KDMV: zeros in version 2 and 3 with flag 0x4, else a sector like any other
 # in a table: a grain of sectors 1 to 8, which end with the file, a sector past it, before the directory or in it

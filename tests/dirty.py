@@ -45,9 +45,9 @@ def half(dirty=0, **fields):
     return small(8, 0, head=kdmv(dirty=dirty, **fields))
 
 
-def old(dirty=0):
+def old(dirty=0, **fields):
     """As COWD: the first grain at sector 37."""
-    return image(45, (0, cowd(dirty=dirty)), (4, entries(5)), (5, entries(37, 0)))
+    return image(45, (0, cowd(dirty=dirty, **fields)), (4, entries(5)), (5, entries(37, 0)))
 
 
 ZEROS = bytes(512)
@@ -63,15 +63,10 @@ alone("newline-beside", half(flags=0, newline=b"\xff \r\n"), 0, 21)
 # COWD's place is none of KDMV's
 alone("cowd-place-in-kdmv", image(16, (0, kdmv()), (1, entries(2)), (2, entries(8, 0)), (3, b"\xff" * 512)), 0, 21)
 
-# ---- COWD: four bytes from 1648 on; it is refused 23 before 27
-for number in (0, 1, 2**8, 2**16, 2**24, 2**32 - 1):
-    alone(f"cowd-{number}", old(number), number, 23, lookups=[(0, 2, 37, ZEROS), (8, 0, 0, b"")])
-
-# the bytes beside it, and KDMV's place, do not count
-for place in (72, 1647, 1652):
-    data = bytearray(old(0))
-    data[place] = 255
-    alone(f"cowd-beside-{place}", bytes(data), 0, 23)
+# ---- COWD is 43, after 1 and before 3, and its header tells no number (A13): tests/moves.py has where it stands
+for name, data, number in (("0", old(), 43), ("1", old(1), 43), ("all-ones", old(2**32 - 1), 43), ("2047", old(1)[:2047], 1),
+                           ("2048", old(1)[:2048], 43), ("version-2", old(1, version=2), 43)):
+    refused(f"cowd-{name}", data, number, (number, 0, 0, 0, 0, 0, 0))
 
 # ---- packed: 23 comes first, with a footer and without
 OPEN_PACKED = image(7, (0, kdmv(flags=0x10001, compression=1, dirty=1)), (1, entries(2)), (2, entries(6)), (6, marker(0, 5)))
@@ -98,7 +93,8 @@ both("neither-open", half(0), half(0), 21)
 # after the checks, 23 and 22
 both("open-and-refused", half(1), small(8, 8), 12)
 both("refused-and-open", small(8, 8, head=kdmv(dirty=1)), half(1), 12)
-both("open-below-cowd", half(1), old(1), 23)
+both("open-below-cowd", half(1), old(1), 43)
+both("cowd-below-open", old(0), half(1), 43)
 both("open-below-packed", half(1), streamed(), 23)
 both("open-packed", OPEN_PACKED, half(1), 23)
 both("lower-open-capacities-differ", half(1), small(8, 0, head=kdmv(15)), 22)

@@ -2,9 +2,9 @@
 """Writes tests/cases/frames, which the program `cases` is run on, and what it must print. frames.py [FOLDER] writes it below
 another folder than tests.
 
-Each case has a label, an image, built byte by byte, and the areas that document 01, with requests A2 and A8, gives it beside its
-grains, or the refusal, written down by hand: both sides of each edge. The list is lent as long as the areas need, or as `room`
-says, and all of it is printed. Nothing here reads an image.
+Each case has a label, an image, built byte by byte, and the areas that document 01, with requests A2, A8 and A13, gives it
+beside its grains, or the refusal, written down by hand: both sides of each edge. The list is lent as long as the areas need, or
+as `room` says, and all of it is printed. Nothing here reads an image.
 """
 from asked import FRAME, case, label, line, main, write_cases
 from images import (ALL_ONES, FOOTER, PACKED, SECTOR, STREAM, STREAMED, cowd, entries, image, kdmv, marker, small, stream,
@@ -67,25 +67,17 @@ framed("entry-1-zeroed-3", image(2, (0, zeroed(version=3)), (1, entries(1))), (H
 framed("entry-1-flag-4-alone", image(2, (0, zeroed(flags=4)), (1, entries(1))), (HEADER, 0, 1), (DIRECTORY, 1, 1))
 framed("entries-1-and-2", image(6, (0, kdmv(redundant=2)), (1, entries(1)), (2, entries(2))),
        (HEADER, 0, 1), (DIRECTORY, 1, 1), (REDUNDANT, 2, 1), (TABLE, 1, 4), (COPY, 2, 4))
-framed("cowd-entry-0", empty(cowd(), 36), (HEADER, 0, 4), (DIRECTORY, 4, 1))
-framed("cowd-entry-1", image(36, (0, cowd()), (4, entries(1))), (HEADER, 0, 4), (DIRECTORY, 4, 1), (TABLE, 1, 32))
-# n entries count: 512 grains of 8 sectors have one, one sector more makes two; COWD has 4,096 grains to an entry
+# n entries count: 512 grains of 8 sectors have one, one sector more makes two
 framed("one-entry", image(9, (0, kdmv(4096)), (1, entries(2, 5))), (HEADER, 0, 1), (DIRECTORY, 1, 1), (TABLE, 2, 4))
 framed("two-entries", image(9, (0, kdmv(4097)), (1, entries(2, 5))),
        (HEADER, 0, 1), (DIRECTORY, 1, 1), (TABLE, 2, 4), (TABLE, 5, 4))
-framed("cowd-one-entry", image(38, (0, cowd(4096, 1, count=2)), (4, entries(5, 6))),
-       (HEADER, 0, 4), (DIRECTORY, 4, 1), (TABLE, 5, 32))
-framed("cowd-two-entries", image(38, (0, cowd(4097, 1, count=2)), (4, entries(5, 6))),
-       (HEADER, 0, 4), (DIRECTORY, 4, 1), (TABLE, 5, 32), (TABLE, 6, 32))
-# 128 entries fill a sector; in COWD the stored count gives the sectors
+# 128 entries fill a sector
 framed("128-entries", empty(kdmv(128 * 4096)), (HEADER, 0, 1), (DIRECTORY, 1, 1))
 framed("129-entries", empty(kdmv(128 * 4096 + 1)), (HEADER, 0, 1), (DIRECTORY, 1, 2))
 framed("129-entries-redundant", empty(kdmv(128 * 4096 + 1, redundant=3)),
        (HEADER, 0, 1), (DIRECTORY, 1, 2), (REDUNDANT, 3, 2))
 framed("129th-entry", image(9, (0, kdmv(128 * 4096 + 1)), (2, entries(4, 99))),
        (HEADER, 0, 1), (DIRECTORY, 1, 2), (TABLE, 4, 4))
-framed("cowd-count-128", empty(cowd(count=128)), (HEADER, 0, 4), (DIRECTORY, 4, 1))
-framed("cowd-count-129", empty(cowd(count=129)), (HEADER, 0, 4), (DIRECTORY, 4, 2))
 # the footer's directory counts, and without the all-ones number there is no footer
 framed("stream", stream(), (HEADER, 0, 1), (DIRECTORY, 1, 1), (TABLE, 2, 4), (FOOTER_SECTOR, 7, 1), (LAST_SECTOR, 8, 1))
 framed("stream-4-sectors", image(4, (0, STREAM), (2, FOOTER)),
@@ -117,10 +109,6 @@ framed("directory-of-two-at-end", empty(kdmv(128 * 4096 + 1, directory=4)), (HEA
 refused("directory-of-two-past", empty(kdmv(128 * 4096 + 1, directory=5)), 8, 2)
 for number in (0, 6, ALL_ONES - 1):
     refused(f"directory-{number}", image(6, (0, kdmv(directory=number)), extra=511), 8, 2)
-framed("cowd-count-at-end", empty(cowd(count=2 * 128)), (HEADER, 0, 4), (DIRECTORY, 4, 2))
-for count in (2 * 128 + 1, 2**32 - 1):
-    refused(f"cowd-count-{count}", empty(cowd(count=count)), 8, 2)
-refused("cowd-directory-0", empty(cowd(directory=0)), 8, 2)
 framed("redundant-at-end", empty(kdmv(redundant=5)), (HEADER, 0, 1), (DIRECTORY, 1, 1), (REDUNDANT, 5, 1))
 for number in (6, ALL_ONES - 1, ALL_ONES):
     refused(f"redundant-{number}", image(6, (0, kdmv(redundant=number)), extra=511), 8, 3)
@@ -133,18 +121,19 @@ for name, at, group, place in (("table", 1, TABLE, 4), ("copy", 2, COPY, 5)):
     framed(f"{name}-at-1", image(5, (0, kdmv(redundant=2)), (at, entries(1))),
            (HEADER, 0, 1), (DIRECTORY, 1, 1), (REDUNDANT, 2, 1), (group, 1, 4))
     refused(f"{name}-at-1-past", image(4, (0, kdmv(redundant=2)), (at, entries(1)), extra=511), 8, place)
-framed("cowd-table-at-end", image(38, (0, cowd()), (4, entries(6))), (HEADER, 0, 4), (DIRECTORY, 4, 1), (TABLE, 6, 32))
-refused("cowd-table-past", image(38, (0, cowd()), (4, entries(7))), 8, 4)
 refused("last-table-past", image(9, (0, kdmv(4097)), (1, entries(2, 6))), 8, 4)
 refused("stream-directory-0", stream(footer=FOOTER[:56] + bytes(8) + FOOTER[64:]), 8, 2)
 
-# ---- 1 to 7, one or two of each: the lookup's cases have their edges
+# ---- 1 to 7 and 43, one or two of each: the lookup's cases have their edges
 refused("no-bytes", b"", 1)
 refused("kdmv-511", kdmv()[:SECTOR - 1], 1)
 refused("cowd-2047", cowd()[:4 * SECTOR - 1], 1)
 refused("four-other-bytes", b"abcd", 2)
 refused("version-4", empty(kdmv(version=4)), 3)
-refused("cowd-version-2", empty(cowd(version=2)), 3)
+refused("cowd", image(45, (0, cowd()), (4, entries(5)), (5, entries(37, 0))), 43)
+refused("cowd-2048", cowd(), 43)
+refused("cowd-version-2", empty(cowd(version=2)), 43)
+refused("cowd-directory-0", empty(cowd(directory=0)), 43)
 refused("newline", empty(kdmv(newline=b"\n \n\n")), 4)
 refused("redundant-missing", empty(kdmv(flags=3)), 5)
 refused("end-without-markers", empty(kdmv(directory=ALL_ONES)), 5)
@@ -155,14 +144,13 @@ refused("newline-before-flag-4", kdmv(flags=5, newline=b"\n \n\n"), 4)
 refused("flag-4-before-sizes", kdmv(0, flags=5), 5)
 refused("flag-4-before-footer", kdmv(flags=0x30005, compression=1, directory=ALL_ONES), 5)
 refused("grain-size-4", empty(kdmv(size=4)), 6)
-refused("cowd-count-0", empty(cowd(count=0)), 6)
 refused("stream-3-sectors", image(3, (0, STREAM), (1, FOOTER)), 7)
 refused("stream-again", stream(footer=STREAM), 7)
 refused("stream-last-byte", stream(last=bytes(SECTOR - 1) + b"\1"), 7)
 refused("stream-odd-length", stream(extra=1), 7)
 refused("7-before-8", stream(footer=FOOTER[:56] + bytes(8) + FOOTER[64:], extra=1), 7)
 
-# ---- 21: three words an area, after 1 to 8; what is not written keeps its content
+# ---- 21: three words an area, after 1 to 8 and 43; what is not written keeps its content
 framed("room-to-spare", small(8, 0), (HEADER, 0, 1), (DIRECTORY, 1, 1), (TABLE, 2, 4), room=14)
 for room in (0, 1, 6, 8):
     refused(f"room-{room}", small(8, 0), 21, room=room)
@@ -172,6 +160,7 @@ refused("room-95", image(6, (0, kdmv(30 * 4096)), (1, entries(*[2] * 31))), 21, 
 refused("room-96-of-99", image(6, (0, kdmv(31 * 4096)), (1, entries(*[2] * 31))), 21, room=96)
 refused("8-before-21", small(8, 0, head=kdmv(directory=0)), 8, 2, room=0)
 refused("1-before-21", b"", 1, room=0)
+refused("43-before-21", cowd(), 43, room=0)
 
 
 def write(folder):

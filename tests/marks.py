@@ -12,9 +12,8 @@ from images import (FOOTER, PACKED, SECTOR, STREAM, at_one, cowd, entries, image
 
 # What each word of the list holds before the call, and the most words that the program lends.
 HELD, MOST = 170, 96
-# Sectors of the areas: of KDMV, with grains of 8 sectors, and of COWD.
+# Sectors of the areas, with grains of 8 sectors.
 HEADER, DIRECTORY, TABLE, ENDS, GRAIN = 1, 1, 4, 1, 8
-OLD_HEADER, OLD_TABLE = 4, 32
 
 CASES, LINES, LABELS = [], [], []
 
@@ -64,9 +63,6 @@ for size, sectors in ((500, 1), (501, 2)):
     accepted(f"packed-{size}", data, HEADER + DIRECTORY + TABLE + sectors)
 # without the all-ones number there is no footer, and so no area of it
 accepted("markers-without-footer", stream(head=FOOTER), HEADER + DIRECTORY + TABLE + 1)
-OLD = image(45, (0, cowd()), (4, entries(5)), (5, entries(37, 0)))
-accepted("cowd", OLD, OLD_HEADER + DIRECTORY + OLD_TABLE + GRAIN)
-accepted("cowd-count-129", image(6, (0, cowd(count=129))), OLD_HEADER + 2)
 # an entry of 1 that is a sector
 accepted("grain-at-1", at_one(b"", 1, 0), HEADER + DIRECTORY + TABLE + GRAIN)
 accepted("table-at-1", table_at_one(), HEADER + DIRECTORY + TABLE)
@@ -105,9 +101,6 @@ for grains in ((8, 8), (8, 15), (15, 8)):
     meets("grains-{}-and-{}".format(*grains), small(*grains, sectors=24), HEADER + DIRECTORY + TABLE + GRAIN)
 meets("grain-of-the-next-table", image(18, (0, kdmv(4097)), (1, entries(2, 6)), (2, entries(10)), (6, entries(10))),
       HEADER + DIRECTORY + 2 * TABLE + GRAIN)
-meets("cowd-directory-on-header", image(38, (0, cowd(directory=3))), OLD_HEADER)
-meets("cowd-table-on-directory", image(38, (0, cowd()), (4, entries(4))), OLD_HEADER + DIRECTORY)
-meets("cowd-grain-on-header", image(38, (0, cowd(4, 1)), (4, entries(5)), (5, entries(1))), OLD_HEADER + DIRECTORY + OLD_TABLE)
 
 # ---- the order of the groups, seen in the number: with another one it would be what the comment says
 # 2 if directories came before the descriptor
@@ -134,11 +127,14 @@ for number, data, place in (
         (4, small(8, 0, head=kdmv(newline=b"\n \n\n")), 0), (5, small(8, 0, head=kdmv(flags=9)), 0),
         (6, small(8, 0, head=kdmv(0)), 0), (7, stream(extra=1), 0), (8, small(8, 0, head=kdmv(directory=0)), 2),
         (9, small(8, 16), 1), (10, image(7, (0, PACKED), (1, entries(2)), (2, entries(0, 6)), (6, marker(0, 5))), 1),
-        (11, DIFFER, 0)):
+        (11, DIFFER, 0), (43, image(45, (0, cowd()), (4, entries(5)), (5, entries(37, 0))), 0)):
     refused(f"number-{number}", data, number, place, room=2)
     refused(f"{number}-before-21", data, number, place, room=0)
 refused("no-bytes", b"", 1)
 refused("cowd-2047", cowd()[:4 * SECTOR - 1], 1)
+# 43 comes before 3 and 12, where nothing is marked either
+refused("cowd-version-2", cowd(version=2), 43)
+refused("cowd-grain-on-header", image(38, (0, cowd(4, 1)), (4, entries(5)), (5, entries(1))), 43)
 # 9 comes before 12, and 11 does: the two grains of DIFFER meet
 refused("9-before-12", small(8, 8, 16, head=kdmv(24)), 9, 2)
 refused("21-before-12", small(8, 8), 21, room=0)

@@ -186,14 +186,103 @@ down("young-open-zero", small(1, 0, head=zeroed(dirty=1)), 27)
 for name, data, answer in (
         ("no-bytes", b"", 1), ("kdmv-511", young()[:511], 1), ("cowd-2047", old()[:2047], 1), ("magic", b"VMDK", 2),
         ("kdmv-version-4", young(version=4), 3), ("cowd-version-2", old(version=2), 3),
-        ("newline", young(newline=b"\n \n\n"), 4), ("flags", young(flags=9), 5), ("kdmv-size-4", young(size=4), 6), ("cowd-size-3", old(size=3), 6),
-        ("cowd-count-0", old(count=0), 6), ("footer", stream()[:-SECTOR], 7), ("kdmv-directory-0", young(directory=0), (8, 2)),
-        ("cowd-table-past", old((4, entries(23))), (8, 4)), ("cowd-grain-past", old(table=(46, 0, 47)), (9, 2)),
-        ("kdmv-grain-past", young(table=(8, 17)), (9, 1)), ("cowd-grain-at-1", old(table=(1, 0, 38)), 12),
-        ("kdmv-twice", young(table=(8, 8)), 12)):
+        ("newline", young(newline=b"\n \n\n"), 4), ("flags", young(flags=9), 5), ("kdmv-size-4", young(size=4), 6),
+        ("cowd-size-3", old(size=3), 6), ("cowd-count-0", old(count=0), 6), ("footer", stream()[:-SECTOR], 7),
+        ("kdmv-directory-0", young(directory=0), (8, 2)), ("cowd-table-past", old((4, entries(23))), (8, 4)),
+        ("cowd-grain-past", old(table=(46, 0, 47)), (9, 2)), ("kdmv-grain-past", young(table=(8, 17)), (9, 1)),
+        ("cowd-grain-at-1", old(table=(1, 0, 38)), 12), ("kdmv-twice", young(table=(8, 8)), 12)):
     asked(f"check-{name}", data, answer, answer, SECTOR)
 asked("check-open", old(version=2, dirty=1), 3, 3)
 asked("check-size-4", image(5, (0, cowd(16, 4, directory=5))), (8, 2), (8, 2))
+
+
+# ---- COWD's own rules, which the moves alone keep (A13), both sides of each edge. Where 44 or 21 is told the check accepted
+def fault(name, data, answer):
+    """An image that either move refuses by its check."""
+    asked(f"cowd-{name}", data, answer, answer)
+
+
+def one_sector(*grains, capacity=4, directory=(5,), sectors=69, **fields):
+    """Grains of one sector each, for which KDMV has no size."""
+    return image(sectors, (0, cowd(capacity, 1, **fields)), (4, entries(*directory)), (5, entries(*grains)))
+
+
+def tables(n):
+    """KDMV's directory of n tables."""
+    return 1, entries(*range(2, 2 + 4 * n, 4))
+
+
+# 1 and 3
+fault("magic-alone", b"COWD", 1)
+fault("2048", cowd(), (8, 2))
+for version in (0, 3, 2**8 + 1, 2**24 + 1):
+    fault(f"version-{version}", old(version=version), 3)
+fault("3-before-6", old(version=2, capacity=0), 3)
+# 6: the capacity, the grain size, and the stored count, which is n at least: 4,097 grains have two entries
+for capacity in (0, 2**31 + 1, 2**32 - 1):
+    fault(f"capacity-{capacity}", image(8, (0, cowd(capacity, 2048, count=512))), 6)
+up("cowd-capacity-1", old(capacity=1), as_kdmv(16, tables(1), (2, entries(8)), (8, grain(0x10, 1)), capacity=1))
+up("cowd-capacity-most", image(6, (0, cowd(2**31, 2048, count=256))), 21)
+for size in (0, 12, 2047, 4096, 2**31):
+    fault(f"size-{size}", image(64, (0, cowd(size=size))), 6)
+up("cowd-size-2048", image(5, (0, cowd(size=2048))), 21)
+up("cowd-4096-grains", one_sector(capacity=4096), 44)
+fault("4097-grains-count-1", one_sector(capacity=4097), 6)
+up("cowd-4097-grains-count-2", one_sector(capacity=4097, count=2), 44)
+up("cowd-32768-sectors", image(5, (0, cowd(32768))), as_kdmv(40, tables(8), capacity=32768, v=40))
+fault("32769-sectors-count-1", image(5, (0, cowd(32769))), 6)
+up("cowd-32769-sectors-count-2", image(5, (0, cowd(32769, count=2))), as_kdmv(40, tables(9), capacity=32769, v=40))
+fault("6-before-8", image(5, (0, cowd(0, directory=0))), 6)
+# 8: the directory, as long as the count says
+for directory, count, fits in ((0, 1, False), (36, 128, True), (37, 1, False), (35, 129, True), (36, 129, False),
+                               (35, 256, True), (35, 257, False), (4, 2**32 - 1, False), (2**32 - 1, 1, False)):
+    name, data = f"directory-{directory}-count-{count}", image(37, (0, cowd(20, directory=directory, count=count)), extra=511)
+    if fits:
+        up(f"cowd-{name}", data, EMPTY_KDMV)
+    else:
+        fault(name, data, (8, 2))
+# 8: tables, of the n entries alone; an entry of 1 is a sector
+up("cowd-table-at-end", image(38, (0, cowd(20)), (4, entries(6)), extra=511), EMPTY_KDMV)
+for number in (7, 38, 2**32 - 1):
+    fault(f"table-{number}", image(38, (0, cowd(20)), (4, entries(number)), extra=511), (8, 4))
+up("cowd-second-table-at-end", one_sector(capacity=4097, count=2, directory=(5, 37)), 44)
+fault("second-table-past", one_sector(capacity=4097, count=2, directory=(5, 38)), (8, 4))
+up("cowd-unused-directory-entry", image(37, (0, cowd(20, count=2)), (4, entries(5, 2**32 - 1))), EMPTY_KDMV)
+fault("table-at-1-past", one_sector(directory=(1,), sectors=32), (8, 4))
+# 9: a grain has all its sectors, also where capacity ends in it; the lowest is told, and before 12
+up("cowd-grain-at-end", old(table=(38, 0, 46)),
+   as_kdmv(24, tables(1), (2, entries(8, 0, 16)), (8, grain(0x30)), (16, grain(0x10, 4))))
+fault("grain-cut-in-last", old(table=(38, 0, 46))[:-1], (9, 2))
+fault("grains-past-lowest", old(table=(38, 47, 2**32 - 1)), (9, 1))
+fault("9-before-12", one_sector(1, 0, 68, 69), (9, 3))
+# 12: header, directory and table have 4, 1 and 32 sectors; an entry of 1 is in the header, and never zeros
+for at in (1, 3, 4, 5, 36):
+    fault(f"grain-on-{at}", one_sector(at), 12)
+up("cowd-grain-on-37", one_sector(37), 44)
+fault("grains-on-one", one_sector(37, 37), 12)
+up("cowd-grains-touch", one_sector(38, 37), 44)
+fault("grains-overlap", old(table=(46, 0, 39)), 12)
+fault("grain-in-table", old(table=(36, 0, 46)), 12)
+fault("directory-on-header", image(37, (0, cowd(directory=3))), 12)
+for at in (1, 3, 4):
+    fault(f"table-on-{at}", image(37, (0, cowd()), (4, entries(at))), 12)
+fault("tables-meet", one_sector(capacity=4097, count=2, directory=(5, 36)), 12)
+up("cowd-tables-meet-past-n", one_sector(capacity=4096, count=2, directory=(5, 36)), 44)
+up("cowd-count-128-table-5", image(38, (0, cowd(20, count=128)), (4, entries(5))), EMPTY_KDMV)
+fault("count-129-table-5", image(38, (0, cowd(20, count=129)), (4, entries(5))), 12)
+up("cowd-count-129-table-6", image(38, (0, cowd(20, count=129)), (4, entries(6))), EMPTY_KDMV)
+# grain 4,095 is the last of the first table, grain 4,096 the first of the second, whose other entries are not in use
+up("cowd-second-table", image(85, (0, cowd(32776, count=2)), (4, entries(5, 37)), (5, entries(*[0] * 4095, 77)),
+                              (37, entries(69, 69)), (69, grain(0x10)), (77, grain(0x30))),
+   as_kdmv(56, tables(9), (33, entries(*[0] * 127, 40)), (34, entries(48)), (40, grain(0x30)), (48, grain(0x10)),
+           capacity=32776, v=40))
+up("cowd-second-table-alone",
+   image(45, (0, cowd(32769, count=2)), (4, entries(0, 5)), (5, entries(37, 37)), (37, grain(0x10))),
+   as_kdmv(48, tables(9), (34, entries(40)), (40, grain(0x10, 1)), capacity=32769, v=40))
+# the dirty number has four bytes from 1648 on: those beside it, and KDMV's place, do not count
+up("cowd-open-all-ones", old(dirty=2**32 - 1), 27)
+for at in (72, 1647, 1652):
+    up(f"cowd-beside-{at}", old()[:at] + b"\xff" + old()[at + 1:], KDMV)
 
 
 def write(folder):

@@ -139,10 +139,12 @@ met("capacity-256", form(capacity=256), 256)
 asked("capacity-127-and-42", bare(capacity=127, version=3), 47)
 asked("grain-size-8-and-42", small(0, 0), 47)
 
+# ---- COWD is 43 by its check (A13)
+asked("cowd", image(37, (0, cowd(128, 128)), (4, entries(5))), 43)
+asked("cowd-open", image(37, (0, cowd(128, 128, dirty=1)), (4, entries(5))), 43)
+asked("cowd-sizes", image(37, (0, cowd(100, 8)), (4, entries(5))), 43)
+
 # ---- 23, before 27 and 47; 27 before 47
-asked("cowd", image(37, (0, cowd(128, 128)), (4, entries(5))), 23)
-asked("cowd-open", image(37, (0, cowd(128, 128, dirty=1)), (4, entries(5))), 23)
-asked("cowd-sizes", image(37, (0, cowd(100, 8)), (4, entries(5))), 23)
 asked("packed", stream(), 23)
 asked("packed-open", streamed(dirty=1), 23)
 asked("packed-sizes-met", bare(flags=0x10005, compression=1), 23)
@@ -157,7 +159,8 @@ for name, data, number, place in (
         ("newline", bare(newline=b"\n \n\n"), 4, 0), ("flags", bare(flags=13), 5, 0), ("size", bare(size=96), 6, 0),
         ("footer", stream()[:-SECTOR], 7, 0), ("directory-0", small(0, 0, head=kdmv(directory=0)), 8, 2),
         ("table-past", bare(directory=(9,)), 8, 4), ("grain-past", full(0, 129), 9, 1),
-        ("grain-twice", full(0, 128, 128), 12, 0), ("open", bare(dirty=1, version=4), 3, 0), ("cowd", cowd(size=3), 6, 0)):
+        ("grain-twice", full(0, 128, 128), 12, 0), ("open", bare(dirty=1, version=4), 3, 0), ("cowd", cowd(version=2), 43, 0),
+        ("cowd-2047", cowd()[:2047], 1, 0)):
     asked(f"check-{name}", data, number, place)
 
 

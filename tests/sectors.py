@@ -2,8 +2,8 @@
 """Writes tests/cases/sectors, which the program `cases` is run on, and what it must print. sectors.py [FOLDER] writes it below
 another folder than tests.
 
-Each case has a label, an image or a chain, built byte by byte, and sectors with the answer that document 01, with requests A2
-and A8, gives for each, written down by hand: both sides of each edge. Nothing here reads an image but for the bytes that an
+Each case has a label, an image or a chain, built byte by byte, and sectors with the answer that document 01, with requests A2,
+A8 and A13, gives for each, written down by hand: both sides of each edge. Nothing here reads an image but for the bytes that an
 answer names.
 """
 import struct
@@ -70,20 +70,14 @@ lookups("sample-of-000",
         image(384, (0, kdmv(8192, 128, 26)), (26, entries(27)), (27, entries(128, 0, 256)), (128, numbered(256))),
         (0, stored(128)), (2, stored(130)), (127, stored(255)), (128, absent()), (255, absent()), (256, stored(256)),
         (383, stored(383)), (384, absent()), (8191, absent()), (8192, refused(20)), (ALL_ONES, refused(20)))
-# entry 1 is zeros in KDMV of version 2 or 3 with flag 0x4, in tables and directories, and a sector in COWD
+# entry 1 is zeros in version 2 or 3 with flag 0x4, in tables and directories
 lookups("table-entry-1", small(1, 8, head=zeroed()), (0, zero()), (7, zero()), (8, stored(8)), (15, stored(15)),
         (16, refused(20)))
 lookups("directory-entry-1", image(2, (0, zeroed()), (1, entries(1))), (0, zero()), (15, zero()))
 lookups("directory-entry-0", image(16, (0, kdmv())), (0, absent()), (15, absent()))
-lookups("cowd-table-entry-1", image(37, (0, cowd(4, 1)), (4, entries(5)), (5, entries(1, 0, 36, 37))),
-        (0, stored(1)), (1, absent()), (2, stored(36)), (3, refused(9, 3)), (4, refused(20)))
-lookups("cowd-directory-entry-1", image(37, (0, cowd(4, 1)), (4, entries(1))), (0, absent()))
-# grain g uses directory entry g / 512 and table entry g mod 512, 4,096 in COWD; the primary directory's
+# grain g uses directory entry g / 512 and table entry g mod 512; the primary directory's
 lookups("second-table", image(26, (0, kdmv(4104)), (1, entries(2, 6)), (2, entries(*[0] * 511, 10)), (6, entries(18))),
         (4087, absent()), (4088, stored(10)), (4095, stored(17)), (4096, stored(18)), (4103, stored(25)), (4104, refused(20)))
-lookups("cowd-second-table",
-        image(71, (0, cowd(4097, 1, count=2)), (4, entries(5, 37)), (5, entries(*[0] * 4095, 69)), (37, entries(70))),
-        (4094, absent()), (4095, stored(69)), (4096, stored(70)), (4097, refused(20)))
 lookups("primary-directory",
         image(25, (0, zeroed(redundant=6)), (1, entries(2)), (2, entries(16, 1)), (6, entries(7)), (7, entries(17, 0))),
         (0, stored(16)), (8, zero()))
@@ -94,10 +88,15 @@ lookups("four-other-bytes", b"abcd", (0, refused(2)))
 lookups("kdmv-511", kdmv()[:511], (0, refused(1)))
 lookups("cowd-2047", cowd()[:2047], (0, refused(1)))
 lookups("other-magic", b"VMDK" + bytes(2044), (0, refused(2)))
+# 43 is COWD's: after 1, before 3, 20, 8 and 9 (A13)
+OLD = image(45, (0, cowd()), (4, entries(5)), (5, entries(37, 38)))
+lookups("cowd", OLD, (0, refused(43)), (7, refused(43)), (8, refused(43)), (16, refused(43)), (ALL_ONES, refused(43)))
+lookups("cowd-2048", cowd(), (0, refused(43)))
+lookups("cowd-version-2", image(64, (0, cowd(version=2))), (0, refused(43)))
+lookups("cowd-directory-past", image(16, (0, cowd(count=1537))), (0, refused(43)), (16, refused(43)))
 # 3
 for version, number in ((0, 3), (1, 0), (2, 0), (3, 0), (4, 3)):
     lookups(f"version-{version}", small(0, 0, head=kdmv(version=version)), (0, refused(3) if number else absent()))
-lookups("cowd-version-2", image(64, (0, cowd(version=2))), (0, refused(3)))
 # 4: newline bytes count only with flag 0x1
 lookups("newline", small(0, 0, head=kdmv(newline=b"\n \n\n")), (0, refused(4)))
 lookups("newline-not-tested", small(0, 0, head=kdmv(newline=b"\n \n\n", flags=0)), (0, absent()))
@@ -120,10 +119,6 @@ for size in (0, 4, 7, 12, 2047, 4096, 2**63):
     lookups(f"grain-size-{size}", small(0, 0, head=kdmv(size=size)), (0, refused(6)))
 for count in (511, 513):
     lookups(f"entries-{count}", small(0, 0, head=kdmv(entries=count)), (0, refused(6)))
-lookups("cowd-count-low", image(64, (0, cowd(4097, 1, count=1))), (0, refused(6)))
-lookups("cowd-count-n", image(64, (0, cowd(4097, 1, count=2))), (0, absent()), (4096, absent()), (4097, refused(20)))
-lookups("cowd-grain-size-4096", image(64, (0, cowd(size=4096))), (0, refused(6)))
-lookups("cowd-grain-size-2", image(64, (0, cowd(size=2))), (0, absent()))
 # 8: directory sector 0; the directory or the table one sector past F; sums that would wrap
 lookups("directory-0", small(8, 0, head=kdmv(directory=0)), (0, refused(8, 2)))
 lookups("directory-at-end", small(8, 0, head=kdmv(directory=15)), (0, absent()))
@@ -132,8 +127,6 @@ lookups("directory-wraps", small(8, 0, head=kdmv(directory=2**64 - 2, flags=1)),
 lookups("table-at-end", image(6, (0, kdmv()), (1, entries(2))), (0, absent()))
 lookups("table-past-cut", image(5, (0, kdmv()), (1, entries(2)), extra=511), (0, refused(8, 4)))
 lookups("table-far", image(16, (0, kdmv()), (1, entries(2**32 - 1))), (0, refused(8, 4)))
-lookups("cowd-directory-by-count", image(16, (0, cowd(count=1024))), (0, absent()))
-lookups("cowd-directory-past", image(16, (0, cowd(count=1537))), (0, refused(8, 2)))
 lookups("other-table-past", image(6, (0, kdmv(4104)), (1, entries(2, 3))), (0, absent()), (4096, refused(8, 4)))
 # what the lookup does not judge: the descriptor, the redundant directory (above), grains that share a sector, bytes past F
 lookups("descriptor-past", small(8, 0, head=kdmv(descriptor=(6, 11))), (0, stored(8)))
@@ -229,8 +222,18 @@ chain("top-grain-past", [BASE, small(9, 9)], (0, refused(9, 0, layer=1)), (8, re
 chain("base-grain-past", [small(9, 9), TOP], (0, refused(9, 0, layer=0)))
 chain("base-grain-not-asked", [small(9, 9), BASE], (0, stored(8, 1)))
 chain("top-directory-0", [BASE, small(8, 8, head=kdmv(directory=0))], (0, refused(8, 2, layer=1)))
-chain("cowd-under-kdmv", [image(38, (0, cowd(16, 8)), (4, entries(5)), (5, entries(0, 30))), TOP],
-      (8, stored(30, 0)), (0, absent(0)))
+# COWD's 43 names its layer, in the order of headers: from the top down, also where no sector leads there, before 22 and 20
+chain("cowd-alone", [OLD], (0, refused(43)), (16, refused(43)))
+chain("cowd-under-kdmv", [OLD, BASE], (0, refused(43, layer=0)), (16, refused(43, layer=0)))
+chain("cowd-over-kdmv", [BASE, OLD], (0, refused(43, layer=1)), (16, refused(43, layer=1)))
+chain("cowd-between", [TOP, OLD, TOP], (0, refused(43, layer=1)))
+chain("cowd-twice", [OLD, TOP, OLD], (0, refused(43, layer=2)))
+chain("cowd-under-other-magic", [OLD, b"abcd"], (0, refused(2, layer=1)))
+chain("cowd-over-other-magic", [b"abcd", OLD], (0, refused(43, layer=1)))
+chain("cowd-under-grain-past", [OLD, small(9, 9)], (0, refused(43, layer=0)))
+chain("cowd-before-22", [OLD, small(8, 0, head=kdmv(24)), BASE], (0, refused(43, layer=0)))
+chain("cowd-2047-between", [TOP, OLD[:2047], TOP], (0, refused(1, layer=1)))
+chain("24-before-cowd", [OLD], (0, refused(24)), lengths=[len(OLD) - 1])
 chain("packed-over-stored",
       [BASE, image(7, (0, PACKED), (1, entries(2)), (2, entries(6, 0)), (6, marker(0, 500)))],
       (3, packed(6, 500, 3, 1)), (8, stored(8, 0)))

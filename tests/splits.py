@@ -55,15 +55,15 @@ def plain(sectors, more=0):
 NONE = b""
 # Capacity 16, two grains: the first stored at sector 8 of the file, the second absent.
 HALF = small(8, 0)
-# The same as COWD with grains of one sector and capacity 4: the first at 37.
+# COWD with grains of one sector and capacity 4: the first at 37.
 OLD = image(38, (0, cowd(4, 1)), (4, entries(5)), (5, entries(37, 0, 0, 0)))
 
-# ---- each type's source; the extent is counted from 0 by the lines, also where one has no file
+# ---- each type's source, but for VMFSSPARSE's 43; the extent is counted from 0 by the lines, also where one has no file
 disk("five-types",
      ('RW 16 SPARSE "a"', HALF), ("RW 3 ZERO", NONE), ('RDONLY 2 FLAT "b" 1', plain(3)), ('RW 4 VMFSSPARSE "c"', OLD),
      ('RW 1 VMFS "d"', plain(1)),
      sectors={0: stored(0, 8), 7: stored(0, 15), 8: absent(0), 15: absent(0), 16: zero(1), 18: zero(1), 19: stored(2, 1),
-              20: stored(2, 2), 21: stored(3, 37), 22: absent(3), 24: absent(3), 25: stored(4, 0), 26: bad(20),
+              20: stored(2, 2), 21: bad(43, 3), 22: bad(43, 3), 24: bad(43, 3), 25: stored(4, 0), 26: bad(20),
               2**64 - 1: bad(20)})
 disk("packed-and-zero", ("RW 1 ZERO", NONE), ('RW 16 SPARSE "a"', stream()),
      sectors={1: packed(1, 6, 5, 0), 8: packed(1, 6, 5, 7), 9: zero(1), 16: zero(1), 17: bad(20)})
@@ -72,8 +72,9 @@ disk("entry-1", ('RW 16 SPARSE "a"', small(1, 0, head=zeroed(), sectors=6)), ('R
      sectors={0: zero(0), 16: bad(9, 1, 1), 31: bad(9, 1, 1)})
 disk("only-zeros", ("RW 1 ZERO", NONE), sectors={0: zero(0), 1: bad(20)})
 # a file's own first sector is served, also where it begins as an image
-disk("image-as-plain-sectors", ('RW 16 FLAT "a" 0', HALF), ('RW 38 VMFS "b"', OLD),
-     sectors={0: stored(0, 0), 15: stored(0, 15), 16: stored(1, 0), 53: stored(1, 37), 54: bad(20)})
+disk("image-as-plain-sectors", ('RW 16 FLAT "a" 0', HALF), ('RW 38 VMFS "b"', OLD), ('RW 37 FLAT "c" 1', OLD),
+     sectors={0: stored(0, 0), 15: stored(0, 15), 16: stored(1, 0), 53: stored(1, 37), 54: stored(2, 1), 90: stored(2, 37),
+              91: bad(20)})
 # sixteen extents
 disk("sixteen", *[("RW 1 ZERO", NONE)] * 15, ('RW 1 FLAT "a" 2', plain(3)),
      sectors={0: zero(0), 14: zero(14), 15: stored(15, 2), 16: bad(20)})
@@ -93,16 +94,28 @@ for kind in ("FLAT", "VMFS"):
 # ---- ZERO: any byte at all is 45
 disk("zero-with-a-byte", ("RW 1 ZERO", b"\0"), ("RW 1 ZERO", NONE), sectors={0: bad(45), 1: zero(1)})
 disk("zero-with-a-sector", ("RW 1 ZERO", NONE), ("RW 1 ZERO", bytes(SECTOR)), sectors={0: zero(0), 1: bad(45, 1)})
+disk("zero-with-cowd", ("RW 4 ZERO", OLD), sectors={0: bad(45), 3: bad(45)})
 
-# ---- images: the other magic is 45, any other bytes the image's 2, fewer than four its 1
-disk("cowd-as-sparse", ('RW 4 SPARSE "a"', OLD), sectors={0: bad(45), 3: bad(45), 4: bad(20)})
-disk("kdmv-as-vmfssparse", ("RW 1 ZERO", NONE), ('RW 16 VMFSSPARSE "a"', HALF), sectors={1: bad(45, 1)})
-disk("other-magic-alone", ('RW 4 SPARSE "a"', b"COWD"), ('RW 4 VMFSSPARSE "b"', b"KDMV"), sectors={0: bad(45), 4: bad(45, 1)})
-disk("three-bytes", ('RW 4 SPARSE "a"', b"COW"), ('RW 4 VMFSSPARSE "b"', b"KDM"), ('RW 4 SPARSE "c"', NONE),
-     sectors={0: bad(1), 4: bad(1, 1), 8: bad(1, 2)})
-disk("neither-magic", ('RW 4 SPARSE "a"', b"cowd"), ('RW 4 VMFSSPARSE "b"', b"VMDK" + OLD[4:]),
-     sectors={0: bad(2), 4: bad(2, 1)})
-disk("own-magic-alone", ('RW 4 SPARSE "a"', b"KDMV"), ('RW 4 VMFSSPARSE "b"', b"COWD"), sectors={0: bad(1), 4: bad(1, 1)})
+# ---- SPARSE: COWD's magic is 45, whatever follows it; any other bytes are the image's 2, fewer than four its 1
+for name, data, number in (
+        ("cowd", OLD, 45), ("cowd-2047", OLD[:2047], 45), ("cowd-2048", OLD[:2048], 45), ("cowd-alone", b"COWD", 45),
+        ("cowd-version-2", cowd(4, 1, version=2), 45), ("three-bytes", b"COW", 1), ("no-bytes", NONE, 1),
+        ("kdmv-alone", b"KDMV", 1), ("other-case", b"cowd", 2), ("neither-magic", b"VMDK" + HALF[4:], 2)):
+    disk(f"sparse-{name}", ("RW 1 ZERO", NONE), ('RW 4 SPARSE "a"', data),
+         sectors={0: zero(0), 1: bad(number, 1), 4: bad(number, 1), 5: bad(20)})
+
+# ---- VMFSSPARSE: 43 by the line alone (A13), whatever the file holds, and whether its sectors are the line's
+for name, data in (
+        ("cowd", OLD), ("cowd-2047", OLD[:2047]), ("cowd-alone", b"COWD"), ("cowd-version-2", cowd(4, 1, version=2)),
+        ("cowd-table-on-header", image(38, (0, cowd(4, 1)), (4, entries(1)))), ("three-bytes", b"COW"), ("no-bytes", NONE),
+        ("kdmv", small(8, 0, head=kdmv(4))), ("kdmv-alone", b"KDMV"), ("neither-magic", b"VMDK" + OLD[4:])):
+    disk(f"vmfssparse-{name}", ("RW 1 ZERO", NONE), ('RW 4 VMFSSPARSE "a"', data), ('RDONLY 5 vmfsSparse "b"', data),
+         sectors={0: zero(0), 1: bad(43, 1), 4: bad(43, 1), 5: bad(43, 2), 9: bad(43, 2), 10: bad(20)})
+# it comes after the descriptor's numbers, 24 and 20, and is the sector's own extent's alone
+disk("34-before-43", ('RW 4 VMFSSPARSE "a"', OLD), ("RW 0 ZERO", NONE), sectors={0: bad(34, 0, 7)})
+disk("24-before-43", ('RW 4 VMFSSPARSE "a"', OLD), lengths=[len(OLD) - 1], sectors={0: bad(24)})
+disk("43-of-another-extent", ('RW 4 VMFSSPARSE "a"', OLD), ('RW 16 SPARSE "b"', HALF), ('RW 4 VMFSSPARSE "c"', OLD),
+     sectors={3: bad(43), 4: stored(1, 8), 19: absent(1), 20: bad(43, 2)})
 
 # ---- the image's own numbers with their places, before 38
 for name, data, number, place in (
@@ -116,18 +129,15 @@ for name, data, number, place in (
     # the second line has another number of sectors too
     disk(f"image-{name}", ("RW 1 ZERO", NONE), ('RW 16 SPARSE "a"', data), ('RW 15 SPARSE "a"', data),
          sectors={0: zero(0), 1: bad(number, 1, place), 16: bad(number, 1, place), 17: bad(number, 2, place)})
-disk("cowd-own-numbers", ('RW 4 VMFSSPARSE "a"', image(38, (0, cowd(4, 1)), (4, entries(5)), (5, entries(1)))),
-     ('RW 4 VMFSSPARSE "b"', image(38, (0, cowd(4, 1, version=2)))), sectors={0: bad(12), 4: bad(3, 1)})
 
 # ---- 38: the capacity is not the line's
 for name, sectors in (("less", 15), ("more", 17)):
     disk(f"capacity-{name}", (f'RW {sectors} SPARSE "a"', HALF), ('RW 16 SPARSE "b"', HALF),
          sectors={0: bad(38), sectors - 1: bad(38), sectors: stored(1, 8), sectors + 8: absent(1)})
-disk("cowd-capacity", ('RW 5 VMFSSPARSE "a"', OLD), ('RW 4 VMFSSPARSE "b"', OLD), sectors={0: bad(38), 5: stored(1, 37)})
 
-# ---- 39 comes before 45 and the image's numbers, whatever the type
+# ---- 39 comes before 43, 45 and the image's numbers, whatever the type
 disk("noaccess", ("NOACCESS 1 ZERO", b"\0"), ('NOACCESS 4 SPARSE "a"', OLD), ('NOACCESS 4 FLAT "b" 0', NONE),
-     ('NOACCESS 4 VMFSSPARSE "c"', b"abcd"), ('NOACCESS 16 SPARSE "d"', HALF), ("RDONLY 1 ZERO", NONE),
+     ('NOACCESS 4 VMFSSPARSE "c"', OLD), ('NOACCESS 16 SPARSE "d"', HALF), ("RDONLY 1 ZERO", NONE),
      sectors={0: bad(39), 1: bad(39, 1), 5: bad(39, 2), 9: bad(39, 3), 13: bad(39, 4), 29: zero(5)})
 
 # ---- only the sector's own file is judged, and no byte of another one is taken

@@ -219,12 +219,11 @@ for directory in (0, 1, ALL_ONES - 1):
     asked(f"directory-at-{directory}", started(*GRAINS).replace(head(), head(directory=directory), 1), 41)
 asked("not-packed", small(8), 41)
 asked("no-markers", started(*GRAINS).replace(head(), head(directory=1, flags=0x10001), 1), 41)
-asked("cowd", image(40, (0, cowd()), (4, entries(5))), 41)
 asked("41-before-21", started(redundant=1), 41, 0)
 # an accepted stream whose overhead is past its end
 asked("overhead-past-a-stream", stream(), 41)
 
-# ---- header numbers come first
+# ---- header numbers come first, and COWD's 43 among them (A13)
 asked("no-bytes", b"", 1)
 asked("511-bytes", started()[:511], 1)
 asked("512-bytes", started()[:512], 41)
@@ -232,7 +231,9 @@ asked("cowd-short", cowd()[:2047], 1)
 asked("magic", b"KDMW" + started()[4:], 2)
 for version in (0, 4):
     asked(f"version-{version}", started(version=version, redundant=1), 3)
-asked("cowd-version", cowd(version=2), 3)
+asked("cowd", image(40, (0, cowd()), (4, entries(5))), 43)
+asked("cowd-room-0", cowd(), 43, 0)
+asked("cowd-version", cowd(version=2), 43)
 asked("newline", started(newline=b"\n \r\r", redundant=1), 4)
 asked("flags", started(flags=0x30008 | 1, redundant=1), 5)
 asked("at-end-without-markers", started(flags=0x10001), 5)
@@ -240,7 +241,6 @@ asked("redundant-flag-alone", started(flags=0x30003), 5)
 asked("flag-4-in-version-1", started(version=1, flags=0x30005), 5)
 for fields in ({"capacity": 0}, {"capacity": 2**31 + 1}, {"size": 4}, {"size": 12}, {"size": 4096}, {"entries": 511}):
     asked(f"sizes-{'-'.join(map(str, *fields.items()))}", started(redundant=1, **fields), 6)
-asked("cowd-count", cowd(count=0), 6)
 closed("grain-size-8-capacity-43", started(), 3)
 
 

@@ -54,6 +54,8 @@ def refused(name, images, number, lengths=None, room=None, short=False):
 
 # Two grains: one stored and one absent; two stored on one sector, which is refused; one that ends past the file.
 HALF, OVERLAP, PAST = small(8, 0), small(8, 8), small(8, 16)
+# COWD, whose last grain ends the file: one stored and three absent.
+OLD = image(38, (0, cowd(4, 1)), (4, entries(5)), (5, entries(0, 0, 0, 37)))
 # Two absent grains without a table.
 EMPTY = image(2, (0, kdmv()))
 # A table of 512 entries: 1 packed grain, 1 zero, 510 absent.
@@ -67,10 +69,8 @@ surveyed("packed-and-zero", (stream(), full(0, 1, 0, 1)))
 surveyed("packed-table", (TABLE, full(0, 1, 510, 1)))
 surveyed("sample-of-000", (image(384, (0, kdmv(8192, 128, 26)), (26, entries(27)), (27, entries(128, 0, 256))),
                            full(2, 0, 62, 0)))
-# entry 1 is zeros in KDMV of version 2 or 3 with flag 0x4; in COWD it is a sector, and here the header's
+# entry 1 is zeros in version 2 or 3 with flag 0x4
 surveyed("entry-1", (small(1, 8, head=zeroed()), full(1, 1, 0, 0)))
-surveyed("cowd", (image(38, (0, cowd(4, 1)), (4, entries(5)), (5, entries(37, 0, 0, 0))), full(1, 0, 3, 0)))
-surveyed("cowd-entry-1", (image(38, (0, cowd(4, 1)), (4, entries(5)), (5, entries(1))), bad(12)))
 # entries past capacity do not count
 surveyed("unused-entries", (small(8, 0, 1, 1, 2**32 - 1), full(1, 0, 1, 0)))
 
@@ -115,9 +115,6 @@ surveyed("last-entry-of-512-grains", (image(2, (0, zeroed(2 * 4096 - 7)), (1, en
 surveyed("table-among-none",
          (image(14, (0, zeroed(3 * 4096)), (1, entries(1, 2, 0)), (2, entries(6, 1))), full(1, 513, 1022, 0)))
 surveyed("packed-without-table", (image(2, (0, kdmv(4096, flags=0x10001, compression=1))), full(0, 0, 512, 0)))
-surveyed("cowd-directory-entry-0", (image(5, (0, cowd(4097, 1, count=2))), full(0, 0, 4097, 0)))
-surveyed("cowd-last-entry",
-         (image(38, (0, cowd(4097, 1, count=2)), (4, entries(0, 5)), (5, entries(37, 37))), full(1, 0, 4096, 0)))
 surveyed("capacity-most", (image(17, (0, zeroed(2**31, 2048)), (1, entries(1))), full(0, 512, 2**20 - 512, 0)))
 
 # ---- a refused image's row, each number and its place; nothing of it is in the totals
@@ -128,11 +125,17 @@ surveyed("each-number",
          (PAST, bad(9, 1)),
          (image(7, (0, PACKED), (1, entries(2)), (2, entries(0, 6)), (6, marker(0, 5))), bad(10, 1)),
          (image(12, (0, zeroed(redundant=6)), (1, entries(2)), (2, entries(1)), (6, entries(7))), bad(11)), (OVERLAP, bad(12)),
-         totals=[0, 0, 0, 0], tally=dict.fromkeys(range(1, 13), 1))
+         (OLD, bad(43)), totals=[0, 0, 0, 0], tally=dict.fromkeys([*range(1, 13), 43], 1))
 surveyed("refused-beside-accepted", (HALF, full(1, 0, 1, 0)), (OVERLAP, bad(12)), (HALF, full(1, 0, 1, 0)),
          totals=[2, 0, 2, 0], tally={12: 1})
 surveyed("refused-alone", (OVERLAP, bad(12)), totals=[0, 0, 0, 0], tally={12: 1})
 surveyed("place-of-the-grain", (PAST, bad(9, 1)), (small(9, 0), bad(9, 0)), tally={9: 2})
+# COWD is 43, after 1 and before 3 and the rest, with place 0, and none of its grains counts (A13)
+surveyed("cowd", (OLD, bad(43)), totals=[0, 0, 0, 0], tally={43: 1})
+surveyed("cowd-by-length", (OLD[:2047], bad(1)), (OLD[:2048], bad(43)), (OLD[:2049], bad(43)), tally={1: 1, 43: 2})
+surveyed("cowd-before-3-and-9", (cowd(version=2), bad(43)), (OLD[:-1], bad(43)), tally={43: 2})
+surveyed("cowd-beside-accepted", (HALF, full(1, 0, 1, 0)), (OLD, bad(43)), (HALF, full(1, 0, 1, 0)), (OVERLAP, bad(12)),
+         totals=[2, 0, 2, 0], tally={12: 1, 43: 1})
 
 # ---- the tally is set: number n at word n - 1, and 0 where no image has the number
 surveyed("tally-none", (HALF, full(1, 0, 1, 0)), tally={})

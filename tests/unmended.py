@@ -13,7 +13,7 @@ MENDS = Mends()
 LABELS = MENDS.labels
 mended, refused, refused_40 = MENDS.mended, MENDS.refused, MENDS.refused_40
 
-# ---- the header's numbers come first, whatever the room; COWD has its own, and is then refused 40
+# ---- the header's numbers come first, whatever the room
 for number, place, data in (
         (1, 0, b"KDM"), (2, 0, b"VMDK"), (3, 0, sides((1, 0), (0, 0), version=4)),
         (4, 0, sides((1, 0), (0, 0), newline=b"\n \n\n")), (5, 0, sides((1, 0), (0, 0), flags=13)),
@@ -22,11 +22,12 @@ for number, place, data in (
     refused(f"number-{number}", data, number, PRIMARY, place=place)
     refused(f"number-{number}-no-list", data, number, REDUNDANT, 0, place)
 refused("no-bytes", b"", 1, PRIMARY)
-for name, data, number in (
-        ("cowd-2047", cowd()[:2047], 1), ("cowd-version-2", cowd(version=2), 3), ("cowd-count-0", cowd(count=0), 6)):
-    refused(name, data, number, PRIMARY)
-refused("cowd-directory-0", image(5, (0, cowd(directory=0))), 8, PRIMARY, place=2)
-refused_40("cowd", image(5, (0, cowd())))
+# COWD is 43 among them (A13): before 3 and 8, whatever the side and the room
+refused("cowd-2047", cowd()[:2047], 1, PRIMARY)
+refused("cowd-version-2", cowd(version=2), 43, PRIMARY)
+refused("cowd-directory-0", image(5, (0, cowd(directory=0))), 43, PRIMARY)
+refused("cowd-from-primary", image(5, (0, cowd())), 43, PRIMARY)
+refused("cowd-from-redundant", image(5, (0, cowd())), 43, REDUNDANT, 0)
 # 8, of each part, and what ends with the file
 for name, place, fields in (
         ("descriptor", 1, {"descriptor": (11, 1)}), ("directory-0", 2, {"directory": 0}), ("directory", 2, {"directory": 11}),
