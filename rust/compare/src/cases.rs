@@ -87,17 +87,21 @@ pub fn gone(rng: &mut Rng, plan: Plan, which: u64) -> Built {
     built
 }
 
-fn image_case(run: &mut Run, rng: &mut Rng, which: u64) {
+/// An image of a case: COWD, which most calls only refuse, in one of eight.
+fn any_image(rng: &mut Rng, which: u64) -> Built {
     let plan = Plan {
         most_sectors: most_sectors(rng),
         ..Plan::default()
     };
     let damages = rng.pick(&[0, 1, 1, 1, 1, 1, 2]);
-    let built = if rng.one_in(8) {
-        gone(rng, plan, which)
-    } else {
-        made(rng, plan, which, damages)
-    };
+    match rng.one_in(8) {
+        true => gone(rng, plan, which),
+        false => made(rng, plan, which, damages),
+    }
+}
+
+fn image_case(run: &mut Run, rng: &mut Rng, which: u64) {
+    let built = any_image(rng, which);
     let image = &built.bytes;
     let before = image.clone();
     run.check(image);
@@ -184,10 +188,9 @@ fn chain_case(run: &mut Run, rng: &mut Rng, which: u64) {
             plan.size = Some((size.0 + rng.below(2), size.1 << rng.below(2)));
         }
         let damages = u64::from(!sound && rng.one_in(count));
-        let built = if rng.one_in(5 * count) {
-            gone(rng, plan, which)
-        } else {
-            made(rng, plan, which, damages)
+        let built = match rng.one_in(5 * count) {
+            true => gone(rng, plan, which),
+            false => made(rng, plan, which, damages),
         };
         sectors.extend([asked(rng, &built), asked(rng, &built), asked(rng, &built)]);
         if damages > 0 {
@@ -239,10 +242,8 @@ fn collapse_case(run: &mut Run, rng: &mut Rng, which: u64) {
                 _ => {}
             }
             if rng.one_in(2) {
-                plan.size = Some((
-                    capacity + rng.below(2),
-                    (grain_size << rng.below(2)).min(2048),
-                ));
+                let other = (grain_size << rng.below(2)).min(2048);
+                plan.size = Some((capacity + rng.below(2), other));
             }
         }
         let which = which + rng.below(bit);

@@ -1,4 +1,4 @@
-//! Small images for the frame and the moves: their areas stand anywhere, over one another too, and every sector is one of entries.
+//! Small images for frame and moves: their areas stand anywhere, over one another too, and every sector is one of entries.
 
 use super::put;
 use crate::rng::Rng;

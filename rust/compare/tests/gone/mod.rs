@@ -1,5 +1,5 @@
-//! Mistakes about COWD, which every call but the moves refuses 43: the plain side with another number, place or layer, or on what
-//! the image is moved to.
+//! Mistakes about COWD, which every call but the moves refuses 43: the plain side with another number, place or layer, or on
+//! what the image is moved to.
 
 mod layers;
 

@@ -1,5 +1,5 @@
-//! Mistakes of the moves, in one that is made anew from the plain side's check and lookups; of COWD, which these refuse, from its
-//! header and entries.
+//! Mistakes of the moves, in one that is made anew from the plain side's check and lookups; of COWD, which these refuse, from
+//! its header and entries.
 
 mod laid;
 

@@ -108,12 +108,9 @@ fn gone(case: &Case, call: &str, named: &str) -> String {
         "split" => {
             let from = lengths.by_ref().take(1 + named).sum::<usize>();
             let file = &case.bytes[from..from + lengths.next().unwrap_or(0)];
-            let magic = String::from_utf8_lossy(file.get(..4).unwrap_or(&[]));
-            ["COWD", "KDMV"]
-                .contains(&&*magic)
-                .then_some(magic)
-                .unwrap_or_default()
-                .into_owned()
+            let magics: [&[u8]; 2] = [b"COWD", b"KDMV"];
+            let magic = magics.iter().position(|magic| file.starts_with(magic));
+            format!("{magic:?} {}", file.is_empty())
         }
         "collapse" => is_cowd(&case.bytes).to_string(),
         // All of a file's own rules but those of its header are one kind.
