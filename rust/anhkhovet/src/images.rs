@@ -34,8 +34,8 @@ impl Header {
 
 /// The full check of one image: every layout rule, over every sector.
 ///
-/// Refusals: 1 to 12, the first that applies; 8 names the [part](crate::MisplacedPart) that sticks out, 9 and 10 the grain. A COWD
-/// image is 43, right after 2, in every call that judges a header: only [`to_kdmv`](crate::to_kdmv) and
+/// Refusals: 1 to 12, the first that applies; 8 names the [part](crate::MisplacedPart) that sticks out, 9 and 10 the grain. A
+/// COWD image is 43, right after 2, in every call that judges a header: only [`to_kdmv`](crate::to_kdmv) and
 /// [`to_cowd`](crate::to_cowd) judge it by its own rules.
 ///
 /// It needs [`STACK`](crate::STACK) bytes of stack; [`check_in`](crate::check_in) does with little.

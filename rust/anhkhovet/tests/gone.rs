@@ -96,7 +96,7 @@ fn disks_of_several_files() {
         assert!(asked("RW 100 VMFSSPARSE", file, 0).is_ok());
     }
     assert_eq!(asked("RW 100 SPARSE", &old, 8), refused(45));
-    assert!(asked("RW 72 FLAT", &old, 8).is_ok());
+    assert!(asked("RW 72 VMFS", &old, 8).is_ok());
     let told = asked("RW 100 VMFSSPARSE", &old, 8).unwrap_err();
     assert_eq!(
         told.to_string(),
