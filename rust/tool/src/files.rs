@@ -1,6 +1,7 @@
 //! The files of one command, as the library gets them: own bytes, several files end to end in one range, base first.
 
 use crate::alike::{disk, unlike};
+use crate::cowd;
 use crate::entries;
 use crate::failure::{Failure, Refusal};
 use crate::frame;
@@ -67,10 +68,22 @@ impl Layers {
 
     /// Of files that are open already, what decides copied.
     pub fn of(files: Vec<Layer>) -> Result<Layers, Failure> {
+        Layers::framed(files, anhkhovet::frame)
+    }
+
+    /// An image that is to be moved, or was: COWD too, which nothing but a move takes.
+    pub fn to_move(file: Layer) -> Result<Layers, Failure> {
+        Layers::framed(vec![file], cowd::frame)
+    }
+
+    fn framed(
+        files: Vec<Layer>,
+        frame: fn(&[u8]) -> Result<Vec<Area>, anhkhovet::Refusal>,
+    ) -> Result<Layers, Failure> {
         let mut layers = Layers::laid_out(files)?;
         for (file, part) in layers.files.iter().zip(&mut layers.parts) {
             let own = &mut layers.own.bytes_mut()[part.bytes.clone()];
-            match frame::copy(file, own)? {
+            match frame::copy(file, own, frame)? {
                 Ok(areas) => part.frame = areas,
                 Err(refusal) => part.broken = refusal.number == 8,
             }
