@@ -96,9 +96,6 @@ fn joined(mut parts: Vec<(u64, u64)>) -> Vec<(u64, u64)> {
 }
 
 #[cfg(test)]
-mod form;
-
-#[cfg(test)]
 pub mod made;
 
 #[cfg(test)]

@@ -1,6 +1,9 @@
 //! Images of every kind and with every kind of damage, by numbers as if by chance.
 
-use super::form::{Chance, Form};
+#[path = "form.rs"]
+mod form;
+
+use form::{Chance, Form};
 
 /// An image under construction: areas one after the other, all noise until they are written.
 struct Made {
