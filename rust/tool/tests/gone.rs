@@ -138,28 +138,38 @@ fn extents_are_refused_by_their_lines() {
         (208, 3, "tool-base.vmdk"),
     ] {
         for command in ["sector", "read"] {
-            let ran = told(&folder, &format!("{command} old {sector}"));
+            let ran = told(&folder, &format!("{command} never-moved {sector}"));
             let line = format!(
-                "anhkhovet: old: extent {extent}: {file}: refused 43: {SENTENCE} ({how})\n"
+                "anhkhovet: never-moved: extent {extent}: {file}: refused 43: {SENTENCE} ({how})\n"
             );
             assert_eq!((ran.status, ran.err), (Some(1), line));
-            let refused = refused(&told(&folder, &format!("--json {command} old {sector}")));
+            let refused = refused(&told(
+                &folder,
+                &format!("--json {command} never-moved {sector}"),
+            ));
             assert_eq!(refused["number"], 43);
             assert_eq!(refused["extent"], extent);
             assert_eq!(refused["file"], file);
             assert_eq!(refused["detail"], how);
         }
     }
-    told(&folder, "sector old 308").ended(1, "old: extent 4: refused 39: ");
-    told(&folder, "sector old 7").well();
+    told(&folder, "sector never-moved 308").ended(1, "never-moved: extent 4: refused 39: ");
+    told(&folder, "sector never-moved 7").well();
     // A COWD file under FLAT is plain sectors.
     let found =
         "sector 413: stored in extent 5 (cowd-s001.vmdk), file sector 5, byte offset 2560\n";
-    assert_eq!(told(&folder, "sector old 413").well().text(), found);
-    for words in ["map old", "map --coverage old", "digest old"] {
-        told(&folder, words).ended(1, "anhkhovet: old: extent 1: cowd-s001.vmdk: refused 43: ");
+    assert_eq!(told(&folder, "sector never-moved 413").well().text(), found);
+    for words in [
+        "map never-moved",
+        "map --coverage never-moved",
+        "digest never-moved",
+    ] {
+        told(&folder, words).ended(
+            1,
+            "anhkhovet: never-moved: extent 1: cowd-s001.vmdk: refused 43: ",
+        );
     }
-    let verdicts = told(&folder, "check old");
+    let verdicts = told(&folder, "check never-moved");
     assert_eq!(verdicts.status, Some(1));
     let text = verdicts.text();
     let told_of = |words: &str| text.lines().filter(|line| line.contains(words)).count();
@@ -174,7 +184,7 @@ fn extents_are_refused_by_their_lines() {
         "{text}"
     );
     assert!(
-        text.starts_with("old: not accepted, of 6 extents 4 refused\n"),
+        text.starts_with("never-moved: not accepted, of 6 extents 4 refused\n"),
         "{text}"
     );
 }

@@ -40,7 +40,7 @@ const HURT: &str = "RW 2048 SPARSE \"tool-base.vmdk\"\n\
     RW 1 ZERO\n";
 
 /// One that was never moved: its COWD files are there, missing, and none.
-const OLD: &str = "RW 8 ZERO\n\
+const NEVER_MOVED: &str = "RW 8 ZERO\n\
     RW 100 VMFSSPARSE \"cowd-s001.vmdk\"\n\
     RW 100 VMFSSPARSE \"nobody-opens-it\"\n\
     RW 100 VMFSSPARSE \"tool-base.vmdk\"\n\
@@ -63,7 +63,7 @@ pub fn descriptor(folder: &Folder, name: &str, extents: &str) {
     fs::write(folder.at(name), text).expect("written");
 }
 
-/// Adds the disks `all`, `hurt` and `old` to a folder that has the samples.
+/// Adds the disks `all`, `hurt` and `never-moved` to a folder that has the samples.
 pub fn add(folder: &Folder) {
     let plain: Vec<u8> = (b'a'..=b'g').flat_map(|letter| [letter; 512]).collect();
     fs::write(folder.at("plain"), plain).expect("written");
@@ -81,7 +81,7 @@ pub fn add(folder: &Folder) {
     lab(folder);
     descriptor(folder, "all", ALL);
     descriptor(folder, "hurt", HURT);
-    descriptor(folder, "old", OLD);
+    descriptor(folder, "never-moved", NEVER_MOVED);
     descriptor(folder, "no-access", "NOACCESS 8 ZERO\nRW 8 ZERO\n");
     descriptor(folder, "alone", "RW 8 FLAT \"plain\" 0\n");
 }
