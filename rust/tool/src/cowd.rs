@@ -90,3 +90,58 @@ impl<'a> Cowd<'a> {
         Some(SECTOR * sector..SECTOR * (sector + sectors))
     }
 }
+
+#[cfg(test)]
+mod tests {
+    use super::*;
+
+    /// A header with these numbers, and a directory at sector 4 that names tables at sectors 6 and 1 << 20, and itself.
+    fn header(length: usize, numbers: [u32; 3]) -> Vec<u8> {
+        let mut own = vec![0; length.max(4096)];
+        own[..4].copy_from_slice(MAGIC);
+        for (at, number) in [12, 16, 20].into_iter().zip(numbers) {
+            own[at..at + 4].copy_from_slice(&number.to_le_bytes());
+        }
+        for (at, number) in [2048, 2056, 2060].into_iter().zip([6u32, 1 << 20, 4]) {
+            own[at..at + 4].copy_from_slice(&number.to_le_bytes());
+        }
+        own.truncate(length);
+        own
+    }
+
+    #[test]
+    fn what_decides_is_listed() {
+        let own = header(1 << 16, [4 * 4096 * 8, 8, 4]);
+        let areas = frame(&own).expect("COWD");
+        let listed = areas.iter().map(|area| (area.first, area.sectors));
+        let wanted = [(0, 4), (4, 1), (6, 32), (1 << 20, 32), (4, 32)];
+        assert_eq!(listed.collect::<Vec<_>>(), wanted);
+        // One grain more, and another entry is in use, and so on over the directory's sector.
+        let used = |capacity| Cowd::of(&header(1 << 16, [capacity, 8, 4])).map(|old| old.used());
+        assert_eq!(used(4 * 4096 * 8 + 1), Some(5));
+        assert_eq!(used(1), Some(1));
+    }
+
+    /// Of numbers that nobody has judged: no fault, and no more areas than entries in the file.
+    #[test]
+    fn any_numbers() {
+        let edges = [0, 1, 2, 4, 8, 127, 2048, 4096, 1 << 20, 1 << 31, u32::MAX];
+        for length in [24, 2047, 2048, 2052, 2063, 4096, 1 << 16] {
+            for [capacity, grain_size, directory] in edges
+                .into_iter()
+                .flat_map(|one| edges.map(|two| edges.map(|three| [one, two, three])))
+                .flatten()
+            {
+                let own = header(length, [capacity, grain_size, directory]);
+                let areas = frame(&own).expect("COWD").len();
+                assert!(
+                    areas <= 2 + length / 4,
+                    "{capacity} {grain_size} {directory}"
+                );
+            }
+        }
+        // Too short for the numbers, it is judged by the library alone.
+        let short = frame(&header(23, [0; 3])).map_err(|why| why.number);
+        assert_eq!(short, Err(1));
+    }
+}
