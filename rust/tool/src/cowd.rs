@@ -1,5 +1,5 @@
-//! A COWD image, which the library takes in moves alone. The tool reads its entries by itself: to know what to copy into own bytes,
-//! how many grains it stores, and where the grains of a result stand. What is refused and what is written, the moves say.
+//! A COWD image, which the library takes in moves alone. The tool reads its entries by itself: to know what to copy into own
+//! bytes, how many grains it stores, and where the grains of a result stand. What is refused and what is written, the moves say.
 
 use crate::entries::entry;
 use crate::room::up;

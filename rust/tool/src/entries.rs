@@ -4,8 +4,9 @@
 use crate::failure::Failure;
 use crate::frame::copy_parts;
 use crate::layer::Layer;
+use crate::mended::NOT_MENDABLE;
 use crate::room::up;
-use anhkhovet::{Area, SECTOR};
+use anhkhovet::{Area, Group, SECTOR};
 use std::ops::Range;
 
 /// Bytes of an entry.
@@ -14,6 +15,22 @@ const ENTRY: u64 = 4;
 /// The third byte of the flags, which has that for packed grains.
 const FLAGS: usize = 10;
 const PACKED: u8 = 1;
+
+/// Refusals that may be for want of markers, and the tables that name the grains.
+pub struct Unsure {
+    pub numbers: &'static [u64],
+    pub tables: &'static [Group],
+}
+
+/// Lookups and the check go by the primary tables alone.
+pub const CHECK: Unsure = Unsure {
+    numbers: &[9, 10],
+    tables: &[Group::PrimaryTable],
+};
+pub const MEND: Unsure = Unsure {
+    numbers: &[NOT_MENDABLE],
+    tables: &[Group::PrimaryTable, Group::RedundantTable],
+};
 
 /// Entries of a table.
 const ENTRIES: u64 = 512;

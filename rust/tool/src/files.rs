@@ -2,11 +2,10 @@
 
 use crate::alike::{disk, unlike};
 use crate::cowd;
-use crate::entries;
+use crate::entries::{self, Unsure, CHECK, MEND};
 use crate::failure::{Failure, Refusal};
 use crate::frame;
 use crate::layer::Layer;
-use crate::mended::NOT_MENDABLE;
 use crate::own::Own;
 use anhkhovet::{Area, ChainRefusal, Disk, Group, Located, Side};
 use std::fs::File;
@@ -34,22 +33,6 @@ struct Part {
     /// The tables whose packed grains have their markers copied.
     marked: &'static [Group],
 }
-
-/// Refusals that may be for want of markers, and the tables that name the grains.
-struct Unsure {
-    numbers: &'static [u64],
-    tables: &'static [Group],
-}
-
-/// Lookups and the check go by the primary tables alone.
-const CHECK: Unsure = Unsure {
-    numbers: &[9, 10],
-    tables: &[Group::PrimaryTable],
-};
-const MEND: Unsure = Unsure {
-    numbers: &[NOT_MENDABLE],
-    tables: &[Group::PrimaryTable, Group::RedundantTable],
-};
 
 impl Layers {
     pub fn open(paths: &[PathBuf]) -> Result<Layers, Failure> {

@@ -17,7 +17,8 @@ const LAST: usize = 1536;
 /// Of a file that stands still the second list has all that there is, and the third is the same.
 const ROUNDS: usize = 4;
 
-/// Copies the frame, as `frame` lists it, into own bytes that are zero, and lists the areas that were copied; or why there is none.
+/// Copies the frame, as `frame` lists it, into own bytes that are zero, and lists the areas that were copied, or says why there
+/// is none.
 pub fn copy(
     layer: &Layer,
     own: &mut [u8],

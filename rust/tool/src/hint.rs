@@ -29,8 +29,8 @@ const SERVED: &str =
     "`anhkhovet sector`, `read`, `map` and `digest` of the image itself do without it";
 
 /// A refusal with what could be done instead, where that is known: of a descriptor that is handed in where single images are
-/// taken, of a COWD image, of a stream without its footer, of an image with a part outside the file that lookups do not need, of one whose two directories or their tables
-/// differ, and of one that is not its normal form.
+/// taken, of a COWD image, of a stream without its footer, of an image with a part outside the file that lookups do not need, of
+/// one whose two directories or their tables differ, and of one that is not its normal form.
 pub fn hinted(failure: Failure) -> Failure {
     moved_by(MOVE, failure)
 }

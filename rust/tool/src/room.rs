@@ -79,7 +79,7 @@ impl<'a> Room<'a> {
         self.length(self.grains().min(held.sum()))
     }
 
-    /// The length itself, by a lookup a grain: that takes a second for a disk of a tebibyte. COWD, which has no lookup, has entries.
+    /// The length itself, by a lookup a grain: that takes a second for a disk of a tebibyte. Of COWD the entries tell.
     pub fn counted(&self) -> Result<u64, Failure> {
         if let Some(old) = Cowd::of(self.images[0]) {
             return Ok(self.length(old.stored()));
