@@ -116,7 +116,7 @@ mod tests {
         let listed = areas.iter().map(|area| (area.first, area.sectors));
         let wanted = [(0, 4), (4, 1), (6, 32), (1 << 20, 32), (4, 32)];
         assert_eq!(listed.collect::<Vec<_>>(), wanted);
-        // One grain more, and another entry is in use, and so on over the directory's sector.
+        // With one sector more another entry is in use.
         let used = |capacity| Cowd::of(&header(1 << 16, [capacity, 8, 4])).map(|old| old.used());
         assert_eq!(used(4 * 4096 * 8 + 1), Some(5));
         assert_eq!(used(1), Some(1));

@@ -10,7 +10,7 @@ use crate::own::Own;
 use anhkhovet::{Area, Group, MisplacedPart, Refusal, SECTOR};
 use std::collections::HashSet;
 
-/// Here are header and footer: the first sector, and of whole sectors the last two but one and the last.
+/// Here are header and footer: the first sector; a footer and the sector after it are the last 1,024 bytes of whole sectors.
 const FIRST: usize = 512;
 const LAST: usize = 1536;
 

@@ -83,14 +83,20 @@ fn unmovable(image: &[u8]) -> String {
     })
 }
 
-/// The digest of a result's sectors in order, as a raw disk of them would have it. No lookup takes COWD: there entries tell.
-fn digest(result: Layers) -> Result<String, Failure> {
+/// The digest of a result's sectors in order, as a raw disk of them would have it. No lookup takes COWD: there entries tell, which
+/// are judged as they are read back.
+fn digest(kind: Kind, mut result: Layers) -> Result<String, Failure> {
     let files = result.files();
-    let digest = match Cowd::of(result.bytes(0)) {
-        Some(old) => hashed(&files, &Grains::of(old.disk), |first, sectors| {
-            Ok(Piece::known(first, sectors, old.place(first, sectors)))
-        })?,
-        None => {
+    let digest = match kind {
+        Kind::Cowd => {
+            judged(&mut result, Kind::Kdmv)?;
+            let changed = || Failure::changed(result.path(0));
+            let old = Cowd::of(result.bytes(0)).ok_or_else(changed)?;
+            hashed(&files, &Grains::of(old.disk), |first, sectors| {
+                Ok(Piece::known(first, sectors, old.place(first, sectors)))
+            })?
+        }
+        Kind::Kdmv => {
             let mut given = Given::Layers(result);
             let cut = given.grains()?;
             hashed(&files, &cut, |first, sectors| {
@@ -132,7 +138,7 @@ fn moved(path: &Path, target: &Target, inputs: &[PathBuf]) -> Result<Moved, Fail
     let length = written.map_err(Failure::refused(path))?;
     let output = mapped.cut(length)?;
     let result = Layer::of(&target.path, output.file()?)?;
-    let digest = digest(Layers::to_move(result)?)?;
+    let digest = digest(kind, Layers::to_move(result)?)?;
     output.finish()?;
     Ok(Moved {
         kind,
