@@ -11,7 +11,7 @@ const WORDS: usize = 3;
 /// What an area of the frame holds.
 #[derive(Clone, Copy, Debug, PartialEq, Eq, Hash)]
 pub enum Group {
-    /// One sector, or four of a COWD image.
+    /// One sector.
     Header,
     /// The text inside the image.
     Descriptor,
@@ -72,7 +72,7 @@ impl Area {
 /// Two images of one length that agree on the sectors of the one's frame have the same check, the same lookups and the same
 /// length in normal form; for packed images they have to agree on the 12 marker bytes of each grain too. `crates/laws` proves it.
 ///
-/// Refusals: 1 to 8, as the check has them. [`raw::frame`] takes a list of the caller's instead, and refuses 21 if it is too
+/// Refusals: 1 to 8 and 43, as the check has them. [`raw::frame`] takes a list of the caller's instead, and refuses 21 if it is too
 /// short.
 ///
 #[doc = concat!("```\n", include_str!("../examples/frame.rs"), "```")]

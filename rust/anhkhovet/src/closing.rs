@@ -26,9 +26,9 @@ impl Closed {
 /// What is kept and the tail behind it are an image that [`check`](crate::check) accepts. It serves the kept grains, each from where it
 /// stood, and all others are absent. A whole stream is a start too.
 ///
-/// Refusals: 1 to 6 as the check has them; 41 for COWD, where the directory is not at the end or there is a redundant one, for over
-/// 2^31 sectors, where the header's overhead, from which on grains stand, is under 2 or past the end, and where a descriptor has one
-/// number only or does not lie between header and overhead; 21 where `out` is too short.
+/// Refusals: 1 to 6 and 43 as the check has them; 41 where the directory is not at the end or there is a redundant one, for
+/// over 2^31 sectors, where the header's overhead, from which on grains stand, is under 2 or past the end, and where a descriptor
+/// has one number only or does not lie between header and overhead; 21 where `out` is too short.
 ///
 #[doc = concat!("```\n", include_str!("../examples/close.rs"), "```")]
 pub fn close(image: &[u8], out: &mut [u8]) -> Result<Closed, Refusal> {

@@ -49,9 +49,9 @@ impl Error for SplitRefusal {}
 /// in bytes for each extent, 0 for ZERO. Only the sector's own file is judged. A stored sector is counted from the start of
 /// that file, the offset of a FLAT or VMFS line included.
 ///
-/// Refusals: the descriptor's, 30 to 36; 24 for the lengths; 20; then of the sector's own extent 39 for NOACCESS, 45 for a file of
-/// the other kind or too short for its line, what [`check`](crate::check) refuses its image for, and 38 where the image's
-/// capacity is not the line's.
+/// Refusals: the descriptor's, 30 to 36; 24 for the lengths; 20; then of the sector's own extent 39 for NOACCESS, 43 for
+/// VMFSSPARSE by the line alone, whatever its file holds, 45 for a COWD file under SPARSE or a file too short for its line, what
+/// [`check`](crate::check) refuses its image for, and 38 where the image's capacity is not the line's.
 ///
 /// It needs [`STACK`](crate::STACK) bytes of stack.
 ///

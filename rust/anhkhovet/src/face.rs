@@ -22,7 +22,7 @@ answer! {
     Marked { number, place, capacity, grain_size, marked }
 }
 answer! {
-    /// What a header says; the refusals are 1 to 7 only. A dirty number other than 0: the disk was still open.
+    /// What a header says; the refusals are 1 to 7 and 43 only. A dirty number other than 0: the disk was still open.
     Head { number, place, capacity, grain_size, descriptor, descriptor_sectors, dirty }
 }
 answer! {

@@ -34,7 +34,9 @@ impl Header {
 
 /// The full check of one image: every layout rule, over every sector.
 ///
-/// Refusals: 1 to 12, the first that applies; 8 names the [part](crate::MisplacedPart) that sticks out, 9 and 10 the grain.
+/// Refusals: 1 to 12, the first that applies; 8 names the [part](crate::MisplacedPart) that sticks out, 9 and 10 the grain. A
+/// COWD image is 43, right after 2, in every call that judges a header: only [`to_kdmv`](crate::to_kdmv) and
+/// [`to_cowd`](crate::to_cowd) judge it by its own rules.
 ///
 /// It needs [`STACK`](crate::STACK) bytes of stack; [`check_in`](crate::check_in) does with little.
 ///
@@ -48,7 +50,7 @@ pub fn check(image: &[u8]) -> Result<Disk, Refusal> {
 ///
 /// A [`collapse`](crate::collapse) of two such images of one capacity meets it too.
 ///
-/// Refusals: 1 to 12 as the check has them, 23 for COWD and packed images, 27 where the disk was still open, 47 for grain size or
+/// Refusals: 1 to 12 and 43 as the check has them, 23 for packed images, 27 where the disk was still open, 47 for grain size or
 /// capacity, 42 with the first byte that differs from the normal form; where one is a start of the other that is the shorter length.
 /// The stored grains of an image are not read.
 ///
@@ -69,7 +71,7 @@ fn disk(verdict: raw::Verdict) -> Result<Disk, Refusal> {
 
 /// The header alone, and the footer where the header asks for one.
 ///
-/// Refusals: 1 to 7, as the check has them.
+/// Refusals: 1 to 7 and 43, as the check has them.
 ///
 #[doc = concat!("```\n", include_str!("../examples/header.rs"), "```")]
 pub fn header(image: &[u8]) -> Result<Header, Refusal> {

@@ -1,4 +1,4 @@
-//! The proved library of disk images, safe to call: sparse VMDK images (KDMV), COWD images and descriptor texts.
+//! The proved library of disk images, safe to call: sparse VMDK images (KDMV) and descriptor texts, and moves from and to COWD.
 //!
 //! Every call looks at bytes that are lent to it, keeps nothing, and reads no file. Any bytes and any numbers may be handed in:
 //! what breaks a rule is a [`Refusal`], never a fault. What each call answers is document 01's and is proved in `crates/`; the
@@ -10,6 +10,7 @@
 //! - [`lookup`] says where a sector comes from, [`chain`] the same for layers on top of each other, and [`read`] hands over
 //!   its bytes.
 //! - [`normal`] and [`collapse`] write an image into memory that is lent; [`to_kdmv`] and [`to_cowd`] write one as the other kind.
+//!   No other call takes a COWD image: it is refused 43.
 //! - [`close`] writes what is missing of a stream that broke off.
 //! - [`mend`] brings the tables of one directory in line with those of its copy, in the lent image, and [`changes`] tells what it
 //!   changed.

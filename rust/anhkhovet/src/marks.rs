@@ -50,8 +50,8 @@ pub fn words_needed(length: u64) -> u64 {
 /// footer, last sector, grains, each group in the order of its entries. The number of sectors marked is that of all areas, or
 /// on refusal 12 of those before the first one that meets an earlier one.
 ///
-/// Refusals: 1 to 11, then 21 for a list that is too short, then 12. After acceptance and 12 the words that are needed are 0;
-/// on every other refusal they keep what they held. Words past those are never written.
+/// Refusals: 1 to 11 and 43 as the check has them, then 21 for a list that is too short, then 12. After acceptance and 12 the
+/// words that are needed are 0; on every other refusal they keep what they held. Words past those are never written.
 ///
 /// It needs less than 16 KiB of stack, whatever the image.
 ///

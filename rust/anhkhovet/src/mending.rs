@@ -51,7 +51,7 @@ impl Change {
 /// It is done only if the image so changed is accepted by [`check`](crate::check), and no other byte of it changes. The words
 /// after the last change keep what they held; after a refusal image and list do wholly. Where nothing differs the answer is 0.
 ///
-/// Refusals: 1 to 8 as the check has them; 40 where there is no redundant directory, where the two directories do not hold 0, 1
+/// Refusals: 1 to 8 and 43 as the check has them; 40 where there is no redundant directory, where the two directories do not hold 0, 1
 /// and tables in the same places, where two of header, footer, directories and tables meet, or where the image would be refused
 /// after the change; 21 where the list is too short. An image has at most as many changes as grains.
 ///

@@ -12,7 +12,7 @@ pub use face::{
     Verdict, Written,
 };
 
-/// The full check: refusals 1 to 12, or capacity and grain size.
+/// The full check: refusals 1 to 12 and 43, or capacity and grain size.
 ///
 /// It needs [`STACK`](crate::STACK) bytes of stack.
 pub fn check(image: &[u8]) -> Verdict {
@@ -30,7 +30,8 @@ pub fn check_in(image: &[u8], list: &mut [u64]) -> Marked {
     unsafe { face::anhkhovet_check_in(image.as_ptr(), image.len(), list.as_mut_ptr(), list.len()) }
 }
 
-/// Whether an image meets the lab profile: refusals 1 to 12 as the check has them, 23, 27, 47, 42, or capacity and grain size.
+/// Whether an image meets the lab profile: refusals 1 to 12 and 43 as the check has them, 23, 27, 47, 42, or capacity and grain
+/// size.
 ///
 /// It needs [`STACK`](crate::STACK) bytes of stack.
 pub fn profile(image: &[u8]) -> Verdict {
@@ -38,7 +39,7 @@ pub fn profile(image: &[u8]) -> Verdict {
     unsafe { face::anhkhovet_profile(image.as_ptr(), image.len()) }
 }
 
-/// The header alone: refusals 1 to 7.
+/// The header alone: refusals 1 to 7 and 43.
 pub fn header(image: &[u8]) -> Head {
     // SAFETY: see the top of the file.
     unsafe { face::anhkhovet_header(image.as_ptr(), image.len()) }
@@ -97,8 +98,8 @@ pub fn survey(images: &[u8], lengths: &[u64], rows: &mut [u64], tally: &mut [u64
 }
 
 /// Overwrites the entries in use of one directory's tables with those of the other's, in the lent image, if the image so changed
-/// would be accepted: refusals 1 to 8, 40, then 21 for the list. `good` is the side that stays: 0 the primary one, any other
-/// number the redundant one. Over the start of `changes` go three words for each entry that differed: grain, old entry, new entry.
+/// would be accepted: refusals 1 to 8 and 43, 40, then 21 for the list. `good` is the side that stays: 0 the primary one, any
+/// other number the redundant one. Over the start of `changes` go three words for each entry that differed: grain, old entry, new entry.
 ///
 /// On a refusal image and list keep what they held. It needs [`STACK`](crate::STACK) bytes of stack.
 pub fn mend(image: &mut [u8], good: u64, changes: &mut [u64]) -> Mended {
@@ -155,7 +156,7 @@ pub fn to_cowd(image: &[u8], out: &mut [u8]) -> Written {
     unsafe { face::anhkhovet_to_cowd(image.as_ptr(), image.len(), out.as_mut_ptr(), out.len()) }
 }
 
-/// Writes the tail that closes a start of a stream over the start of `out`: refusals 1 to 6, 41, then 21. The first
+/// Writes the tail that closes a start of a stream over the start of `out`: refusals 1 to 6 and 43, 41, then 21. The first
 /// `sectors` x 512 bytes of `image` and the tail after them are an image.
 pub fn close(image: &[u8], out: &mut [u8]) -> Closed {
     // SAFETY: see the top of the file.

@@ -7,7 +7,7 @@ use std::fmt;
 #[derive(Clone, Copy, Debug, PartialEq, Eq, Hash)]
 pub struct Refusal {
     /// Document 01's number: 1 to 12 of an image, 20 to 24, 27, 40 to 42, 44 and 47 of what is asked, 30 to 36 of a text, 38,
-    /// 39 and 45 of an extent.
+    /// 39 and 45 of an extent, 43 of a COWD image or an extent of one.
     pub number: u64,
     /// The part, the grain, the byte or the line at fault, as [`Refusal::counted`] says, else 0.
     pub place: u64,
@@ -142,7 +142,7 @@ impl Refusal {
             20 => "the sector is at or past the end of the disk",
             21 => "the output or the list is too short for the result",
             22 => "the images do not have the same capacity and grain size",
-            23 => "collapse, normal form and the lab profile take no COWD image, a move takes the other kind, and none of them a compressed image",
+            23 => "collapse, normal form, lab profile and moves take no compressed image, and a move takes the other kind alone",
             24 => "a chain has 1 to 16 layers, a survey 1 to 1,024 images, a disk of several files one for each extent",
             27 => "the disk was still open when it was copied: shut the machine down and copy it again",
             30 => "the first line is not \"# Disk DescriptorFile\"",
@@ -166,6 +166,7 @@ impl Refusal {
                  most 2^31 sectors, grains from sector 2 on at least, and its descriptor, if any, before them"
             }
             42 => "from here on the file is not its own normal form",
+            43 => "it is a COWD image, or by its line an extent of one, and those are only moved to KDMV",
             44 => "a grain of under 8 sectors has no place in KDMV, and a grain marked as zeros none in COWD",
             45 => "the file is not of its extent's type, or is too short for its sectors",
             47 => "the lab profile has grains of 128 sectors and a capacity that is a multiple of 128",

@@ -57,7 +57,8 @@ impl Source {
 /// Judged is what the answer needs: the header, the directory's place, and the table and the grain that the sector leads to. So
 /// an image that [`check`](crate::check) refuses may have answers here; in an accepted one every sector below capacity has one.
 ///
-/// Refusals: 1 to 7, 20, 8, 9, 10, in this order; 8 is the directory's or a primary table's, never another part's.
+/// Refusals: 1 to 7 and 43 as the check has them, 20, 8, 9, 10, in this order; 8 is the directory's or a primary table's, never
+/// another part's.
 ///
 #[doc = concat!("```\n", include_str!("../examples/lookup.rs"), "```")]
 pub fn lookup(image: &[u8], sector: u64) -> Result<Source, Refusal> {
@@ -70,8 +71,8 @@ pub fn lookup(image: &[u8], sector: u64) -> Result<Source, Refusal> {
 ///
 /// `layers` has 1 to 16 images end to end, base first, and `lengths` their lengths in bytes.
 ///
-/// Refusals: 24 for the count or the lengths; then each header from the top down, 1 to 7; 22 where the layers are not of one
-/// capacity and grain size; 20; then 8 to 10 of each layer that is met on the way down, as the lookup has them.
+/// Refusals: 24 for the count or the lengths; then each header from the top down, 1 to 7 and 43; 22 where the layers are not
+/// of one capacity and grain size; 20; then 8 to 10 of each layer that is met on the way down, as the lookup has them.
 ///
 #[doc = concat!("```\n", include_str!("../examples/chain.rs"), "```")]
 pub fn chain(layers: &[u8], lengths: &[u64], sector: u64) -> Result<Located, ChainRefusal> {

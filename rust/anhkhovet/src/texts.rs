@@ -58,7 +58,7 @@ pub enum ExtentKind {
     Vmfs = 2,
     /// SPARSE: a KDMV image.
     Sparse = 3,
-    /// VMFSSPARSE: a COWD image.
+    /// VMFSSPARSE: a COWD image, which [`split`](crate::split) refuses.
     VmfsSparse = 4,
     /// ZERO: nothing, it reads as zeros.
     Zero = 5,

@@ -36,12 +36,6 @@ fn groups() {
         (Group::LastSector, 144, 1),
     ];
     assert_eq!(frame(&sample("vmdkstream")), areas(&ends));
-    let cowd = [
-        (Group::Header, 0, 4),
-        (Group::Directory, 4, 1),
-        (Group::PrimaryTable, 5, 32),
-    ];
-    assert_eq!(frame(&sample("cowd-s001")), areas(&cowd));
 }
 
 /// A directory that names one table many times: the frame does not judge that.

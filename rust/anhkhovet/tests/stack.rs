@@ -21,7 +21,7 @@ fn on(stack: usize, call: impl FnOnce() + Send + 'static) {
 
 #[test]
 fn calls_that_check() {
-    let images = ["tool-base", "tool-packed", "vmdkstream", "cowd-s001"].map(sample);
+    let images = ["tool-base", "tool-packed", "vmdkstream"].map(sample);
     on(STACK, move || {
         assert!(images.iter().all(|image| check(image).is_ok()));
         let lengths: Vec<u64> = images.iter().map(|image| image.len() as u64).collect();
@@ -81,7 +81,7 @@ fn mending() {
 
 #[test]
 fn calls_on_sectors() {
-    let images = ["tool-base", "tool-packed", "vmdkstream", "cowd-s001"].map(sample);
+    let images = ["tool-base", "tool-packed", "vmdkstream"].map(sample);
     on(LITTLE, move || {
         for image in &images {
             assert!(frame(image).is_ok());
@@ -116,7 +116,7 @@ fn list(image: &[u8]) -> Vec<u64> {
 
 #[test]
 fn the_check_in_a_lent_list() {
-    let images = ["tool-base", "tool-packed", "vmdkstream", "cowd-s001"].map(sample);
+    let images = ["tool-base", "tool-packed", "vmdkstream"].map(sample);
     let mut lists: Vec<Vec<u64>> = images.iter().map(|image| list(image)).collect();
     on(LITTLE, move || {
         for (image, list) in images.iter().zip(&mut lists) {

@@ -61,7 +61,6 @@ fn kinds() {
         "tool-base",
         "tool-packed",
         "vmdkstream",
-        "cowd-s001",
         "zeroed-grain-data",
     ];
     let mut all = Counts::default();

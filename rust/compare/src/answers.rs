@@ -1,12 +1,13 @@
 //! The table's places: kinds of answers, with the calls that can give them.
 
+mod requests;
+
+pub use requests::REFUSE_COWD;
+
 use crate::tally::Call::{self, *};
 
 /// The calls whose answers are counted by what the image's header has.
-const JUDGES: &[Call] = &[Check, CheckIn, Header, Frame, Survey];
-
-/// The same, and mending, which no COWD image is answered.
-const OF_KDMV: &[Call] = &[Check, CheckIn, Header, Frame, Survey, Mend];
+const JUDGES: &[Call] = &[Check, CheckIn, Header, Frame, Survey, Mend];
 
 /// Calls that judge all parts of an image.
 const OF_PARTS: &[Call] = &[
@@ -30,26 +31,30 @@ const CLEAN: &[Call] = &[Normal, Collapse, ToKdmv, ToCowd];
 /// The calls that take clean images.
 const OF_CLEAN: &[Call] = &[Profile, Normal, Collapse, ToKdmv, ToCowd];
 
-/// Both moves.
-const MOVES: &[Call] = &[ToKdmv, ToCowd];
+/// A kind of answers, and the calls that can give it.
+pub type Answer = (&'static str, &'static [Call]);
 
-/// Kinds of answers, with the calls that can give them.
-pub const ANSWERS: &[(&str, &[Call])] = &[
-    ("accepted KDMV", OF_KDMV),
-    ("accepted COWD", JUDGES),
-    ("accepted, footer", OF_KDMV),
-    ("accepted, redundant", OF_KDMV),
-    ("accepted, descriptor", OF_KDMV),
-    ("accepted, packed", OF_KDMV),
-    ("accepted, n above 1", OF_KDMV),
-    ("accepted, odd length", OF_KDMV),
+/// All kinds, in the table's order.
+pub fn all() -> impl Iterator<Item = &'static Answer> {
+    ANSWERS.iter().chain(requests::ANSWERS)
+}
+
+/// Those of document 01 and of requests A1 to A8.
+const ANSWERS: &[Answer] = &[
+    ("accepted", JUDGES),
+    ("accepted, footer", JUDGES),
+    ("accepted, redundant", JUDGES),
+    ("accepted, descriptor", JUDGES),
+    ("accepted, packed", JUDGES),
+    ("accepted, n above 1", JUDGES),
+    ("accepted, odd length", JUDGES),
     // Request A2: what an entry of 1 is and names, and the refusals that it can lead to.
-    ("accepted, 1 is zeros", OF_KDMV),
-    ("accepted, 1 a sector", OF_KDMV),
+    ("accepted, 1 is zeros", JUDGES),
+    ("accepted, 1 a sector", JUDGES),
     ("accepted, table at 1", &[Check, CheckIn, Frame, Survey]),
     ("accepted, copy at 1", &[Check, CheckIn, Frame, Survey]),
     ("accepted, grain at 1", &[Check, CheckIn, Survey]),
-    ("5, flag 0x4 alone", OF_KDMV),
+    ("5, flag 0x4 alone", JUDGES),
     ("9, grain at 1", &[Check, CheckIn]),
     ("11, zeros and absent", &[Check, CheckIn]),
     ("11, zeros and a table", &[Check, CheckIn]),
@@ -79,22 +84,18 @@ pub const ANSWERS: &[(&str, &[Call])] = &[
     ("from FLAT", &[Split]),
     ("from VMFS", &[Split]),
     ("from SPARSE", &[Split]),
-    ("from VMFSSPARSE", &[Split]),
     ("from ZERO", &[Split]),
     ("from the 32nd extent", &[Split]),
     ("45, short FLAT", &[Split]),
     ("45, short VMFS", &[Split]),
     ("45, COWD in SPARSE", &[Split]),
-    ("45, KDMV in VMFSSPARSE", &[Split]),
     ("45, ZERO with bytes", &[Split]),
     ("24, sum that wraps", &[Split]),
     ("24, sector past", &[Split]),
     ("1 to 12, 38 too", &[Split]),
     // Request A5: what dirty images are answered, and where two refusals would hold.
-    ("accepted, dirty KDMV", OF_KDMV),
-    ("accepted, dirty footer", OF_KDMV),
-    ("accepted, dirty COWD", JUDGES),
-    ("accepted, low byte 0", JUDGES),
+    ("accepted, dirty", JUDGES),
+    ("accepted, dirty footer", JUDGES),
     ("from a dirty image", &[Lookup, Chain, Read, Split]),
     ("27, lower alone", &[Collapse]),
     ("27, upper alone", &[Collapse]),
@@ -143,7 +144,6 @@ pub const ANSWERS: &[(&str, &[Call])] = &[
     ("21, a change short", &[Mend]),
     ("21, no list", &[Mend]),
     // Its refusal 40, by the first part that holds, and where another one would hold.
-    ("40, COWD", &[Mend]),
     ("40, one directory", &[Mend]),
     ("40, zeros and absent", &[Mend]),
     ("40, zeros and a table", &[Mend]),
@@ -178,115 +178,4 @@ pub const ANSWERS: &[(&str, &[Call])] = &[
     ("found, 8 with place 3", &[Lookup, Chain, Read]),
     ("found, 8 with place 4", &[Lookup, Chain, Read]),
     ("found, 8 with place 5", &[Lookup, Chain, Read]),
-    // Request A9: by what the image is like, and where two refusals would hold.
-    ("moved, no grain", MOVES),
-    ("moved, order turned", MOVES),
-    ("moved, end in a grain", MOVES),
-    ("moved, stored zeros", MOVES),
-    ("moved, n above 1", MOVES),
-    ("moved, several tables", MOVES),
-    ("moved, no table", MOVES),
-    ("moved, with a gap", MOVES),
-    ("moved, normal form", MOVES),
-    ("23, the other kind", MOVES),
-    ("23, packed", &[Profile, ToKdmv, ToCowd]),
-    ("23, 44 too", &[ToCowd]),
-    ("27, 44 too", MOVES),
-    ("44, 21 too", MOVES),
-    ("44, grain size 1", &[ToKdmv]),
-    ("44, grain size 2", &[ToKdmv]),
-    ("44, grain size 4", &[ToKdmv]),
-    ("44, table entry 1", &[ToCowd]),
-    ("44, directory entry 1", &[ToCowd]),
-    ("44, last grain alone", &[ToCowd]),
-    ("21, a byte short", &[ToKdmv, ToCowd, Close]),
-    ("21, no grain fits", MOVES),
-    // Request A11: by what meets it, by the part that the first differing byte stands in, and where two refusals would hold.
-    ("met, no grain", &[Profile]),
-    ("met, stored grains", &[Profile]),
-    ("met, zero grains", &[Profile]),
-    ("met, n above 1", &[Profile]),
-    ("met, long directory", &[Profile]),
-    ("42, version", &[Profile]),
-    ("42, flags", &[Profile]),
-    ("42, descriptor", &[Profile]),
-    ("42, redundant", &[Profile]),
-    ("42, directory sector", &[Profile]),
-    ("42, overhead", &[Profile]),
-    ("42, padding", &[Profile]),
-    ("42, directory entry", &[Profile]),
-    ("42, unused directory", &[Profile]),
-    ("42, table entry", &[Profile]),
-    ("42, unused entry", &[Profile]),
-    ("42, inside an entry", &[Profile]),
-    ("42, gap", &[Profile]),
-    ("42, cut in the gap", &[Profile]),
-    ("42, a byte more", &[Profile]),
-    ("42, bytes more", &[Profile]),
-    ("42, a sector more", &[Profile]),
-    ("42, sectors more", &[Profile]),
-    ("47, grain size", &[Profile]),
-    ("47, capacity", &[Profile]),
-    ("47, both", &[Profile]),
-    ("47, normal form", &[Profile]),
-    ("23, COWD", &[Profile]),
-    ("23, 47 too", &[Profile]),
-    ("23, sizes met", &[Profile]),
-    ("27, 47 too", &[Profile]),
-    ("27, sizes met", &[Profile]),
-    ("8 to 12, 47 too", &[Profile]),
-    // Request A12: by what is kept, by the blocks on the way, by what ends the walk, and by the parts of 41.
-    ("closed, nothing there", &[Close]),
-    ("closed, no grain", &[Close]),
-    ("closed, all kept", &[Close]),
-    ("closed, odd length", &[Close]),
-    ("closed, whole stream", &[Close]),
-    ("closed, several tables", &[Close]),
-    ("closed, entry passed", &[Close]),
-    ("closed, first entry not", &[Close]),
-    ("closed, grain 0", &[Close]),
-    ("closed, entry 511", &[Close]),
-    ("closed, last grain", &[Close]),
-    ("closed, long directory", &[Close]),
-    ("closed, descriptor", &[Close]),
-    ("closed, no descriptor", &[Close]),
-    ("closed, up to overhead", &[Close]),
-    ("closed, overhead 2", &[Close]),
-    ("closed, dirty", &[Close]),
-    ("table between", &[Close]),
-    ("table first", &[Close]),
-    ("directory between", &[Close]),
-    ("long directory between", &[Close]),
-    ("table dropped", &[Close]),
-    ("directory dropped", &[Close]),
-    ("size 500", &[Close]),
-    ("size 501", &[Close]),
-    ("size 1012", &[Close]),
-    ("size 1013", &[Close]),
-    ("to the end", &[Close]),
-    ("stop, type 0", &[Close]),
-    ("stop, type 3", &[Close]),
-    ("stop, type above 3", &[Close]),
-    ("stop, low byte 1 or 2", &[Close]),
-    ("stop, grain cut", &[Close]),
-    ("stop, table cut", &[Close]),
-    ("stop, directory cut", &[Close]),
-    ("stop, no multiple", &[Close]),
-    ("stop, at capacity", &[Close]),
-    ("stop, far past", &[Close]),
-    ("stop, the same grain", &[Close]),
-    ("stop, a lower grain", &[Close]),
-    ("41, 21 too", &[Close]),
-    ("41, COWD", &[Close]),
-    ("41, directory told", &[Close]),
-    ("41, redundant", &[Close]),
-    ("41, overhead 0", &[Close]),
-    ("41, overhead 1", &[Close]),
-    ("41, overhead F + 1", &[Close]),
-    ("41, overhead past", &[Close]),
-    ("41, half a descriptor", &[Close]),
-    ("41, a sector past", &[Close]),
-    ("41, end that wraps", &[Close]),
-    ("1 to 6, 41 too", &[Close]),
-    ("21, no output", &[Close]),
 ];

@@ -1,7 +1,7 @@
 //! The cases of a run: each makes its inputs from the seed and its own number, and calls both sides on them.
 
 use crate::dirty::written;
-use crate::image::{build, damage, suited, Built, Plan, Shape};
+use crate::image::{build, damage, put, suited, Built, Plan, Shape};
 use crate::rng::Rng;
 use crate::run::Run;
 use crate::tally::Call;
@@ -73,13 +73,35 @@ fn most_sectors(rng: &mut Rng) -> u64 {
     }
 }
 
-fn image_case(run: &mut Run, rng: &mut Rng, which: u64) {
+/// A COWD image, which few calls take: sound or damaged, about as long as its header, or of another version or grain size.
+pub fn gone(rng: &mut Rng, plan: Plan, which: u64) -> Built {
+    let damages = rng.pick(&[0, 0, 1]);
+    let mut built = made(rng, Plan { cowd: true, ..plan }, which, damages);
+    match rng.below(8) {
+        0 => built.bytes.resize(rng.pick(&[4, 512, 2047, 2047]), 0),
+        1 => built.bytes.resize(rng.pick(&[2048, 2048, 2049]), 0),
+        2 => put(&mut built.bytes, 4, 4, rng.pick(&[0, 2, 3, 257])),
+        3 => put(&mut built.bytes, 16, 4, rng.pick(&[0, 3, 4096])),
+        _ => {}
+    }
+    built
+}
+
+/// An image of a case: COWD, which most calls only refuse, in one of eight.
+fn any_image(rng: &mut Rng, which: u64) -> Built {
     let plan = Plan {
         most_sectors: most_sectors(rng),
         ..Plan::default()
     };
     let damages = rng.pick(&[0, 1, 1, 1, 1, 1, 2]);
-    let built = made(rng, plan, which, damages);
+    match rng.one_in(8) {
+        true => gone(rng, plan, which),
+        false => made(rng, plan, which, damages),
+    }
+}
+
+fn image_case(run: &mut Run, rng: &mut Rng, which: u64) {
+    let built = any_image(rng, which);
     let image = &built.bytes;
     let before = image.clone();
     run.check(image);
@@ -161,15 +183,15 @@ fn chain_case(run: &mut Run, rng: &mut Rng, which: u64) {
             most_sectors: 40,
             ..Plan::default()
         };
-        if size.1 < 8 {
-            plan.cowd = Some(true);
-        }
         if rng.one_in(12 * count) {
             // A layer of another size.
             plan.size = Some((size.0 + rng.below(2), size.1 << rng.below(2)));
         }
         let damages = u64::from(!sound && rng.one_in(count));
-        let built = made(rng, plan, which, damages);
+        let built = match rng.one_in(5 * count) {
+            true => gone(rng, plan, which),
+            false => made(rng, plan, which, damages),
+        };
         sectors.extend([asked(rng, &built), asked(rng, &built), asked(rng, &built)]);
         if damages > 0 {
             sectors.extend([built.asked[built.asked.len() - 1]; 4]);
@@ -186,9 +208,9 @@ fn chain_case(run: &mut Run, rng: &mut Rng, which: u64) {
     }
 }
 
-/// A small size that both kinds of images can have, mostly.
+/// A small size.
 fn chain_size(rng: &mut Rng) -> (u64, u64) {
-    let grain_size = rng.pick(&[8, 8, 8, 16, 1, 2, 64]);
+    let grain_size = rng.pick(&[8, 8, 8, 16, 64]);
     let capacity = match rng.below(4) {
         0 => grain_size * 512 + rng.below(3),
         1 => rng.within(1, grain_size * 1500),
@@ -200,7 +222,6 @@ fn chain_size(rng: &mut Rng) -> (u64, u64) {
 fn collapse_case(run: &mut Run, rng: &mut Rng, which: u64) {
     let (capacity, grain_size) = crate::image::size(rng, false, false);
     let usual = Plan {
-        cowd: Some(false),
         packed: Some(false),
         size: Some((capacity, grain_size)),
         most_sectors: most_sectors(rng),
@@ -216,19 +237,20 @@ fn collapse_case(run: &mut Run, rng: &mut Rng, which: u64) {
         let mut plan = usual;
         if other & bit != 0 {
             match rng.below(3) {
-                0 => plan.cowd = Some(true),
+                0 => plan.cowd = true,
                 1 => plan.packed = Some(true),
                 _ => {}
             }
             if rng.one_in(2) {
-                plan.size = Some((
-                    capacity + rng.below(2),
-                    (grain_size << rng.below(2)).min(2048),
-                ));
+                let other = (grain_size << rng.below(2)).min(2048);
+                plan.size = Some((capacity + rng.below(2), other));
             }
         }
         let which = which + rng.below(bit);
-        pair.push(made(rng, plan, which, u64::from(bad & bit != 0)));
+        pair.push(match plan.cowd {
+            true => gone(rng, plan, which),
+            false => made(rng, plan, which, u64::from(bad & bit != 0)),
+        });
     }
     let (lower, upper) = (&pair[0].bytes, &pair[1].bytes);
     let needed = needed(&[lower, upper]);

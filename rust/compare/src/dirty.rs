@@ -32,12 +32,9 @@ impl Run<'_> {
         if !is_dirty(image) {
             return;
         }
-        let cowd = image.starts_with(b"COWD");
         let rows = [
-            ("accepted, dirty KDMV", !cowd),
-            ("accepted, dirty footer", !cowd && image[56..64] == [255; 8]),
-            ("accepted, dirty COWD", cowd),
-            ("accepted, low byte 0", cowd && image[1648] == 0),
+            ("accepted, dirty", true),
+            ("accepted, dirty footer", image[56..64] == [255; 8]),
         ];
         self.count_those(call, &rows);
     }
@@ -96,7 +93,7 @@ mod tests {
 
     #[test]
     fn the_number_is_handed_out_and_decides_nothing_else() {
-        let mut numbers = [BTreeSet::new(), BTreeSet::new(), BTreeSet::new()];
+        let mut numbers = [BTreeSet::new(), BTreeSet::new()];
         for case in 0..3000 {
             let rng = &mut Rng::new(12, case);
             let plan = Plan {
@@ -105,15 +102,13 @@ mod tests {
             };
             let shape = Shape::choose(rng, suited(plan, case));
             let mut built = build(rng, shape);
-            let (cowd, footer) = (built.shape.cowd, built.shape.footer);
-            numbers[if cowd { 2 } else { footer.into() }].insert(built.shape.dirty);
+            numbers[usize::from(built.shape.footer)].insert(built.shape.dirty);
             let open = built.bytes.clone();
             assert_eq!(header(&open).dirty, built.shape.dirty, "{case}");
 
-            let (at, size) = if cowd { (1648, 4) } else { (72, 1) };
             for start in built.headers() {
-                let at = start + at;
-                built.put(Field { at, size }, 0);
+                let at = start + 72;
+                built.put(Field { at, size: 1 }, 0);
             }
             let clean = &built.bytes;
             assert_eq!(header(clean).dirty, 0, "{case}");
@@ -122,10 +117,7 @@ mod tests {
                 assert_eq!(lookup(clean, sector), lookup(&open, sector), "{case}");
             }
         }
-        // With a footer or without one, 0, 1, 2 and 255; of COWD each of the four bytes.
-        assert!(numbers[..2]
-            .iter()
-            .all(|all| all.iter().eq(&[0, 1, 2, 255])));
-        assert_eq!(numbers[2].len(), 1 + 3 * 4, "{numbers:?}");
+        // With a footer or without one, 0, 1, 2 and 255.
+        assert!(numbers.iter().all(|all| all.iter().eq(&[0, 1, 2, 255])));
     }
 }

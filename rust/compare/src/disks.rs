@@ -62,8 +62,11 @@ impl Cut {
     /// An extent of at most `most` sectors.
     fn choose(rng: &mut Rng, most: u64, which: u64) -> Cut {
         match rng.below(10) {
-            0..=3 => Cut::image(rng, "SPARSE", most, which),
-            4 | 5 => Cut::image(rng, "VMFSSPARSE", most, which),
+            0..=4 => {
+                let cowd = rng.one_in(10);
+                Cut::image(rng, cowd, most, which)
+            }
+            5 => Cut::gone(rng, most, which),
             6 => Cut::sectors(rng, "FLAT", most),
             7 | 8 => Cut::sectors(rng, "VMFS", most),
             _ => Cut::zeros(rng, most),
@@ -75,15 +78,26 @@ impl Cut {
         text::extent_of(rng, access, self.sectors, self.kind, self.offset)
     }
 
-    /// An image: sound, damaged, of the other kind, of no kind or of another capacity.
-    fn image(rng: &mut Rng, kind: &'static str, most: u64, which: u64) -> Cut {
-        let fault = rng.below(20);
-        let other = fault < 2;
-        let cowd = (kind == "VMFSSPARSE") != other;
+    /// COWD's type, whatever the file holds: an image of either kind, other bytes or none.
+    fn gone(rng: &mut Rng, most: u64, which: u64) -> Cut {
+        let cowd = rng.one_in(2);
+        let mut cut = Cut::image(rng, cowd, most, which);
+        if rng.one_in(3) {
+            few_or_other(rng, &mut cut.file);
+        }
+        Cut {
+            kind: "VMFSSPARSE",
+            ..cut
+        }
+    }
+
+    /// An image: sound, damaged, of no kind or of another capacity, and KDMV or not.
+    fn image(rng: &mut Rng, cowd: bool, most: u64, which: u64) -> Cut {
+        let fault = rng.below(18);
         let packed = rng.one_in(3);
         let (capacity, grain_size) = size(rng, cowd, packed);
         let plan = Plan {
-            cowd: Some(cowd),
+            cowd,
             packed: Some(packed),
             size: Some((capacity.min(most), grain_size)),
             most_sectors: 40,
@@ -95,14 +109,14 @@ impl Cut {
             2 => 5,
             _ => which,
         };
-        let mut built = made(rng, plan, which, u64::from((1..10).contains(&fault)));
+        let mut built = made(rng, plan, which, u64::from(fault < 9));
         let mut sectors = built.shape.capacity;
         match fault {
             // Four bytes are enough to tell.
-            0 => built.bytes.truncate(rng.pick(&[4, 4, 511, usize::MAX])),
-            // 9 is damaged too: the image's own numbers come first.
-            9 | 10 => sectors = rng.pick(&[sectors - 1, sectors + 1]).clamp(1, most),
-            11 => few_or_other(rng, &mut built.bytes),
+            0..=3 if cowd => built.bytes.truncate(rng.pick(&[4, 511])),
+            // 8 is damaged too: the image's own numbers come first.
+            8 | 9 => sectors = rng.pick(&[sectors - 1, sectors + 1]).clamp(1, most),
+            10 => few_or_other(rng, &mut built.bytes),
             _ => {}
         }
         built.asked.retain(|asked| *asked < sectors);
@@ -110,7 +124,7 @@ impl Cut {
         let (all, stored) = (&built.asked, &built.asked[built.asked.len() / 2..]);
         let asked = [all, all, stored, stored, stored].map(|those| rng.pick(those));
         Cut {
-            kind,
+            kind: "SPARSE",
             sectors,
             offset: None,
             file: built.bytes,
@@ -177,8 +191,7 @@ fn few_or_many(rng: &mut Rng, most: u64) -> u64 {
 fn few_or_other(rng: &mut Rng, file: &mut Vec<u8>) {
     if rng.one_in(2) {
         file.truncate(rng.pick(&[0, 1, 3, 4, 511]));
-    } else {
-        let at = rng.index(4);
-        file[at] = file[at].to_ascii_lowercase();
+    } else if let Some(magic) = file.get_mut(..4) {
+        magic[rng.index(4)].make_ascii_lowercase();
     }
 }

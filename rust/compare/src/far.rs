@@ -20,7 +20,7 @@ pub fn run_far(run: &mut Run, memory: &mut [u8], seed: u64, first: u64, count: u
 }
 
 fn far_case(run: &mut Run, memory: &mut [u8], rng: &mut Rng) {
-    let cowd = rng.one_in(3);
+    let cowd = rng.one_in(6);
     let grain_size = 1 << rng.within(if cowd { 0 } else { 3 }, 11);
     let table_sectors = if cowd { 32 } else { 4 };
     let grains = rng.within(1, 12);

@@ -27,7 +27,6 @@ impl Run<'_> {
     /// Rows of a frame, by the words of its areas and the length of the list.
     fn count_framed(&mut self, image: &[u8], words: &[u64], room: usize) {
         let tables = words.chunks(3).any(|area| [5, 6].contains(&area[0]));
-        // A table of COWD has 32 sectors.
         let has = |one: [u64; 3]| words.chunks(3).any(|area| area == one);
         let rows = [
             ("no table", !tables),
@@ -48,7 +47,8 @@ impl Run<'_> {
 /// The frame of an image, and of one whose areas stand anywhere.
 pub fn case(run: &mut Run, rng: &mut Rng, image: &[u8]) {
     ask(run, rng, image);
-    let other = anywhere(rng);
+    let cowd = rng.one_in(16);
+    let other = anywhere(rng, cowd);
     ask(run, rng, &other);
 }
 

@@ -2,6 +2,7 @@
 
 mod answers;
 pub mod cases;
+pub mod cowd;
 mod dirty;
 mod disks;
 pub mod far;
@@ -10,7 +11,7 @@ mod image;
 mod lists;
 pub mod marks;
 pub mod mends;
-mod moves;
+pub mod moves;
 mod ones;
 pub mod pairs;
 pub mod places;

@@ -108,9 +108,6 @@ fn short(image: &[u8], good: u64, room: usize) -> Rows {
 
 /// Rows of refusal 40: the first of its parts that holds.
 fn unmended(image: &[u8], good: u64, room: usize) -> Rows {
-    if image.starts_with(b"COWD") {
-        return vec![("40, COWD", true)];
-    }
     if image[48..56] == [0; 8] {
         return vec![("40, one directory", true)];
     }

@@ -1,7 +1,8 @@
 //! Both moves on both sides: of images of either kind, of what the plain side moved, in outputs of every length about the needed one.
 
-use crate::frames::areas;
-use crate::image::{build, size, Plan, Shape};
+use crate::cases::made;
+use crate::cowd::{grain_at, has_no_table, head, is_cowd, PER_TABLE};
+use crate::image::{anywhere, size, Plan};
 use crate::ones::{directories, number};
 use crate::rng::Rng;
 use crate::run::Run;
@@ -55,11 +56,10 @@ struct Laid<'a> {
 
 impl Laid<'_> {
     fn of(bytes: &[u8]) -> Laid<'_> {
-        let head = plain::header(bytes);
-        let (front, per_table) = if bytes.starts_with(b"COWD") {
-            (4, 4096)
-        } else {
-            (1, 512)
+        let head = head(bytes);
+        let (front, per_table) = match is_cowd(bytes) {
+            true => (4, PER_TABLE),
+            false => (1, 512),
         };
         let n = (head.capacity - 1) / (per_table * head.grain_size) + 1;
         let first_table = front + (n - 1) / 128 + 1;
@@ -92,7 +92,10 @@ impl Laid<'_> {
 /// Rows of an image that was moved.
 fn moved(call: Call, image: &[u8], laid: &Laid) -> Rows {
     let stored = laid.stored();
-    let source = |grain: &u64| plain::lookup(image, grain * laid.grain_size).sector;
+    let source = |grain: &u64| match is_cowd(image) {
+        true => grain_at(image, *grain),
+        false => plain::lookup(image, grain * laid.grain_size).sector,
+    };
     let sectors: Vec<u64> = stored.iter().map(source).collect();
     let last = laid.entries.len() as u64 - 1;
     let whole = laid.capacity % laid.grain_size == 0;
@@ -116,10 +119,7 @@ fn moved(call: Call, image: &[u8], laid: &Laid) -> Rows {
             "moved, several tables",
             stored.first().map(table) != stored.last().map(table),
         ),
-        (
-            "moved, no table",
-            areas(image).chunks(3).all(|area| area[0] != 5),
-        ),
+        ("moved, no table", has_no_table(image, last)),
         ("moved, with a gap", laid.tables_end % laid.grain_size != 0),
         (
             "moved, normal form",
@@ -146,7 +146,7 @@ fn front(result: &[u8]) -> usize {
 
 /// Rows of refusal 44.
 fn unmovable(call: Call, image: &[u8], room: usize) -> Rows {
-    let head = plain::header(image);
+    let head = head(image);
     let mut rows = vec![
         ("44, 21 too", room == 0),
         ("44, grain size 1", head.grain_size == 1),
@@ -173,10 +173,9 @@ fn zeros(image: &[u8]) -> u64 {
 
 /// Rows of the other refusals: where 23 comes from, and what else would hold.
 fn unmoved(call: Call, refused: u64, image: &[u8], room: usize) -> Rows {
-    let head = plain::header(image);
+    let head = head(image);
     let dirty = head.dirty != 0;
-    let cowd = image.starts_with(b"COWD");
-    let packed = !cowd && refused == 23 && number(image, 77, 2) == 1;
+    let packed = !is_cowd(image) && refused == 23 && number(image, 77, 2) == 1;
     let clean = match refused {
         27 => answer(call, &cleaned(image), room),
         _ => Written::default(),
@@ -191,6 +190,7 @@ fn unmoved(call: Call, refused: u64, image: &[u8], room: usize) -> Rows {
         ),
         ("23, 27 too", refused == 23 && dirty),
         ("27, other than 1", refused == 27 && head.dirty != 1),
+        ("27, low byte 0", refused == 27 && head.dirty % 256 == 0),
         ("27, 21 too", refused == 27 && clean.number == 21),
         ("27, 44 too", refused == 27 && clean.number == 44),
         ("27, room enough", refused == 27 && clean.number == 0),
@@ -220,11 +220,7 @@ fn into(call: Call, image: &[u8], out: &mut [u8]) -> Written {
 /// The image with the dirty number 0. A footer, which has it too, comes with grains that are refused 23.
 fn cleaned(image: &[u8]) -> Vec<u8> {
     let mut image = image.to_vec();
-    let dirty = if image.starts_with(b"COWD") {
-        1648..1652
-    } else {
-        72..73
-    };
+    let dirty = if is_cowd(&image) { 1648..1652 } else { 72..73 };
     if let Some(bytes) = image.get_mut(dirty) {
         bytes.fill(0);
     }
@@ -233,7 +229,7 @@ fn cleaned(image: &[u8]) -> Vec<u8> {
 
 /// What the plain side makes of an image, had it been clean. Where the directory is large it is not made.
 pub fn result(call: Call, image: &[u8]) -> Option<Vec<u8>> {
-    let head = plain::header(image);
+    let head = head(image);
     if head.number != 0 || head.capacity / head.grain_size > 512 * 200 {
         return None;
     }
@@ -250,7 +246,8 @@ pub fn result(call: Call, image: &[u8]) -> Option<Vec<u8>> {
     (written.number == 0).then_some(out)
 }
 
-/// Both moves of an image, then those of one that suits them, there and back.
+/// Both moves of an image, then those of one that suits them, there and back; half of those that are COWD are damaged, since no
+/// other call judges it.
 pub fn case(run: &mut Run, rng: &mut Rng, image: &[u8]) {
     for call in [Call::ToKdmv, Call::ToCowd] {
         ask(run, rng, call, image);
@@ -258,18 +255,22 @@ pub fn case(run: &mut Run, rng: &mut Rng, image: &[u8]) {
     let cowd = rng.one_in(2);
     let few = cowd && rng.one_in(4);
     let plan = Plan {
-        cowd: Some(cowd),
+        cowd,
         packed: Some(false),
         size: Some(size(rng, few, false)),
         most_sectors: rng.pick(&[40, 40, 130, 4100]),
         ..Plan::default()
     };
-    let shape = Shape::choose(rng, plan);
-    let image = build(rng, shape).bytes;
+    let (which, damages) = (rng.below(16), rng.pick(&[0, 0, 1, 2]));
+    let image = match cowd && rng.one_in(8) {
+        true => anywhere(rng, true),
+        false => made(rng, plan, which, if cowd { damages } else { 0 }).bytes,
+    };
     let call = if cowd { Call::ToKdmv } else { Call::ToCowd };
     ask(run, rng, call, &image);
-    if let Some(other) = result(call, &image) {
-        ask(run, rng, back(call), &other);
+    match result(call, &image) {
+        Some(other) => ask(run, rng, back(call), &other),
+        None => ask(run, rng, back(call), &image),
     }
 }
 

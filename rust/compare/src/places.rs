@@ -1,5 +1,6 @@
 //! Request A8 in the table: which part of an image refusal 8 named, and which others lie outside the file too.
 
+use crate::cowd::{head, is_cowd, PER_TABLE};
 use crate::ones::{number, one_is_zero};
 use crate::run::Run;
 use crate::tally::Call;
@@ -45,9 +46,8 @@ struct Judged<'a> {
 
 impl Judged<'_> {
     fn of(image: &[u8]) -> Judged<'_> {
-        let head = plain::header(image);
-        let cowd = image.starts_with(b"COWD");
-        let per_table = if cowd { 4096 } else { 512 };
+        let (head, cowd) = (head(image), is_cowd(image));
+        let per_table = if cowd { PER_TABLE } else { 512 };
         let entries = (head.capacity - 1) / (per_table * head.grain_size) + 1;
         let footer = (image.len() as u64 / 512).saturating_sub(2) * 512;
         let (directory, stored) = match number(image, 56, 8) {
@@ -76,7 +76,7 @@ impl Judged<'_> {
         if directory == 0 || self.past(directory, self.sectors) {
             return false;
         }
-        let none = u64::from(self.image.starts_with(b"KDMV") && one_is_zero(self.image));
+        let none = u64::from(!is_cowd(self.image) && one_is_zero(self.image));
         (0..self.entries).any(|index| {
             let table = number(self.image, directory * 512 + index * 4, 4);
             table > none && self.past(table, self.table_sectors)
@@ -126,19 +126,19 @@ impl Run<'_> {
         self.count_at_0(call, place, image);
     }
 
-    /// Rows of a refusal to write, by the layer that is refused 8.
+    /// Rows of a refusal to write, by the layer that is refused 8 or is COWD.
     pub(crate) fn count_layer(&mut self, call: Call, written: Written, layers: &[&[u8]]) {
-        if written.number != 8 {
-            return;
-        }
         let refused = |image: &&&[u8]| plain::check(image).number != 0;
         if let Some(image) = layers.iter().find(refused) {
-            self.count_outside(call, written.place, image);
+            self.count_cowd(call, [written.number, written.place], image);
+            if written.number == 8 {
+                self.count_outside(call, written.place, image);
+            }
         }
         let verdicts: Vec<bool> = layers.iter().map(|image| refused(&image)).collect();
-        match verdicts[..] {
-            [true, false] => self.tally.answered(call, "8, lower alone"),
-            [false, true] => self.tally.answered(call, "8, upper alone"),
+        match (written.number, &verdicts[..]) {
+            (8, [true, false]) => self.tally.answered(call, "8, lower alone"),
+            (8, [false, true]) => self.tally.answered(call, "8, upper alone"),
             _ => {}
         }
     }

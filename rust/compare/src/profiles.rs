@@ -21,6 +21,7 @@ impl Run<'_> {
         let answer = answers[1];
         if answer.number != 0 {
             self.tally.refused(call, answer.number, answer.place);
+            self.count_cowd(call, [answer.number, answer.place], image);
         }
         if answer.number == 8 {
             self.count_outside(call, answer.place, image);
@@ -129,7 +130,6 @@ fn met(image: &[u8]) -> Rows {
 /// Where 23 and 47 come from, and what else would hold.
 fn refused(refusal: u64, image: &[u8]) -> Rows {
     let head = plain::header(image);
-    let cowd = image.starts_with(b"COWD");
     let size = head.grain_size != SIZE;
     let capacity = head.capacity % SIZE != 0;
     let dirty = head.dirty != 0;
@@ -137,8 +137,7 @@ fn refused(refusal: u64, image: &[u8]) -> Rows {
     vec![
         ("8 to 12, 27 too", refusal <= 12 && dirty),
         ("8 to 12, 47 too", refusal <= 12 && (size || capacity)),
-        ("23, COWD", refusal == 23 && cowd),
-        ("23, packed", refusal == 23 && !cowd),
+        ("23, packed", refusal == 23),
         ("23, 27 too", refusal == 23 && dirty),
         ("23, 47 too", refusal == 23 && (size || capacity)),
         ("23, sizes met", refusal == 23 && !size && !capacity),
@@ -183,7 +182,6 @@ fn form(rng: &mut Rng) -> Vec<u8> {
         _ => rng.within(1, 12),
     };
     let plan = Plan {
-        cowd: Some(false),
         packed: Some(rng.one_in(12)),
         size: Some((grains * size, size)),
         clean: true,

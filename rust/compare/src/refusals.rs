@@ -1,9 +1,13 @@
 //! Which numbers a call can give.
 
+use crate::answers::REFUSE_COWD;
 use crate::tally::Call::{self, *};
 
 /// The refusals of documents 01 and 02, with the calls that can give them, a survey in its rows too; 37 is the program's own.
 pub fn gives(number: u64, call: Call) -> bool {
+    if number == 43 {
+        return REFUSE_COWD.contains(&call);
+    }
     match call {
         Check => (1..=12).contains(&number),
         CheckIn => (1..=12).contains(&number) || number == 21,

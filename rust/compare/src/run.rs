@@ -106,6 +106,7 @@ impl<'a> Run<'a> {
     pub(crate) fn count_accepted(&mut self, call: Call, verdict: Verdict, image: &[u8]) {
         if verdict.number != 0 {
             self.tally.refused(call, verdict.number, verdict.place);
+            self.count_cowd(call, [verdict.number, verdict.place], image);
             match verdict.number {
                 5 if ones::flag_alone(image) => self.tally.answered(call, "5, flag 0x4 alone"),
                 8 => self.count_outside(call, verdict.place, image),
@@ -115,22 +116,19 @@ impl<'a> Run<'a> {
         }
         self.count_dirty(call, image);
         let set = |range: std::ops::Range<usize>| image[range].iter().any(|byte| *byte != 0);
-        let cowd = &image[..4] == b"COWD";
-        let per_table = if cowd { 4096 } else { 512 };
         let rows = [
-            ("accepted KDMV", !cowd),
-            ("accepted COWD", cowd),
-            ("accepted, footer", !cowd && image[56..64] == [255; 8]),
-            ("accepted, redundant", !cowd && set(48..56)),
-            ("accepted, descriptor", !cowd && set(28..36)),
-            ("accepted, packed", !cowd && set(77..78)),
+            ("accepted", true),
+            ("accepted, footer", image[56..64] == [255; 8]),
+            ("accepted, redundant", set(48..56)),
+            ("accepted, descriptor", set(28..36)),
+            ("accepted, packed", set(77..78)),
             (
                 "accepted, n above 1",
-                verdict.capacity > per_table * verdict.grain_size,
+                verdict.capacity > 512 * verdict.grain_size,
             ),
             ("accepted, odd length", image.len() % 512 != 0),
-            ("accepted, 1 is zeros", !cowd && ones::one_is_zero(image)),
-            ("accepted, 1 a sector", !cowd && !ones::one_is_zero(image)),
+            ("accepted, 1 is zeros", ones::one_is_zero(image)),
+            ("accepted, 1 a sector", !ones::one_is_zero(image)),
         ];
         for (row, holds) in rows {
             if holds {
@@ -151,6 +149,7 @@ impl<'a> Run<'a> {
         let number = self.write(Call::Collapse, &layers, room, |side, out| {
             side.collapse(lower, upper, out)
         });
+        self.count_pair(number, lower, upper);
         self.count_unwritten(Call::Collapse, number, &layers, room);
     }
 

@@ -1,5 +1,6 @@
 //! Single sectors on both sides: the lookup, the chain and the grain reader.
 
+use crate::cowd::is_cowd;
 use crate::run::Run;
 use crate::tally::Call;
 use plain::{Located, ABSENT, PACKED, STORED, ZERO};
@@ -15,6 +16,8 @@ impl Run<'_> {
             &sector,
         );
         self.count_located(Call::Lookup, answers[1]);
+        self.count_cowd(Call::Lookup, [answers[1].number, answers[1].place], image);
+        self.count_past(Call::Lookup, answers[1].number, image, sector);
         self.count_met(Call::Lookup, answers[1], image);
         self.count_source(Call::Lookup, answers[1], image, sector);
     }
@@ -25,7 +28,7 @@ impl Run<'_> {
         self.compare(Call::Chain, both, true, &[layers], &(lengths, sector));
         self.count_located(Call::Chain, answers[1]);
         if ![0, 8].contains(&answers[1].number) {
-            return;
+            return self.count_headed_layer(answers[1], layers, lengths, sector);
         }
         let layer = answers[1].layer as usize;
         let below = layer + 1 < lengths.len();
@@ -39,6 +42,30 @@ impl Run<'_> {
         let image = &layers[from as usize..(from + lengths[layer]) as usize];
         self.count_met(Call::Chain, answers[1], image);
         self.count_source(Call::Chain, answers[1], image, sector);
+    }
+
+    /// Rows of a layer whose header is refused.
+    fn count_headed_layer(
+        &mut self,
+        located: Located,
+        layers: &[u8],
+        lengths: &[u64],
+        sector: u64,
+    ) {
+        if !matches!(located.number, 1..=7 | 43) {
+            return;
+        }
+        let mut rest = layers;
+        let mut images = Vec::new();
+        for length in lengths {
+            let (image, after) = rest.split_at(*length as usize);
+            images.push(image);
+            rest = after;
+        }
+        let named = images[located.layer as usize];
+        self.count_cowd(Call::Chain, [located.number, located.place], named);
+        self.count_past(Call::Chain, located.number, named, sector);
+        self.count_layers(located, &images);
     }
 
     pub(crate) fn count_located(&mut self, call: Call, located: Located) {
@@ -71,6 +98,9 @@ impl Run<'_> {
             _ => "packed",
         };
         self.tally.answered(Call::Read, row);
+        if is_cowd(image) && image.len() >= 2048 {
+            self.tally.answered(Call::Read, "empty part of COWD");
+        }
         let located = plain::lookup(image, sector);
         self.count_met(Call::Read, located, image);
         self.count_source(Call::Read, located, image, sector);

@@ -1,5 +1,6 @@
 //! The split on both sides: disks cut into several files, with sectors, lengths and texts at the edges.
 
+use crate::cowd::is_cowd;
 use crate::disks::Disk;
 use crate::lists;
 use crate::rng::Rng;
@@ -8,14 +9,19 @@ use crate::tally::Call;
 use crate::text;
 use plain::{Extent, Located};
 
-/// By the extent's kind, from 1: the row of an answer, and that of 45.
+/// By the extent's kind, from 1: the row of an answer, and that of 45; a VMFSSPARSE line has neither.
 const ROWS: [(&str, &str); 5] = [
     ("from FLAT", "45, short FLAT"),
     ("from VMFS", "45, short VMFS"),
     ("from SPARSE", "45, COWD in SPARSE"),
-    ("from VMFSSPARSE", "45, KDMV in VMFSSPARSE"),
+    ("unknown", "unknown"),
     ("from ZERO", "45, ZERO with bytes"),
 ];
+
+const FLAT: u64 = 1;
+const VMFS: u64 = 2;
+const SPARSE: u64 = 3;
+const VMFSSPARSE: u64 = 4;
 
 impl Run<'_> {
     pub fn split(&mut self, text: &[u8], files: &[u8], lengths: &[u64], sector: u64) {
@@ -74,11 +80,39 @@ impl Run<'_> {
                 self.tally.answered(Call::Split, row);
             }
         }
+        self.count_type(located, extent, file);
         if located.number == 8 {
             self.count_outside(Call::Split, located.place, file);
         }
-        if [3, 4].contains(&extent.kind) {
+        if extent.kind == SPARSE {
             self.count_source(Call::Split, located, file, sector - extent.first);
+        }
+    }
+
+    /// Rows of COWD's type, whatever the file holds, and of COWD's bytes in plain sectors.
+    fn count_type(&mut self, located: Located, extent: &Extent, file: &[u8]) {
+        let gone = located.number == 43;
+        let kdmv = file.starts_with(b"KDMV");
+        let served = located.number == 0 && is_cowd(file);
+        let rows = [
+            ("43, COWD file", gone && is_cowd(file)),
+            ("43, KDMV file", gone && kdmv),
+            ("43, empty file", gone && file.is_empty()),
+            (
+                "43, another file",
+                gone && !file.is_empty() && !kdmv && !is_cowd(file),
+            ),
+            (
+                "39, 43 too",
+                located.number == 39 && extent.kind == VMFSSPARSE,
+            ),
+            ("from FLAT, COWD", served && extent.kind == FLAT),
+            ("from VMFS, COWD", served && extent.kind == VMFS),
+        ];
+        for (row, holds) in rows {
+            if holds {
+                self.tally.answered(Call::Split, row);
+            }
         }
     }
 }

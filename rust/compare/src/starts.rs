@@ -4,6 +4,7 @@
 mod made;
 mod walked;
 
+use crate::cowd::is_cowd;
 use crate::ones::number;
 use crate::rng::Rng;
 use crate::run::Run;
@@ -22,6 +23,7 @@ impl Run<'_> {
         });
         if answer.number != 0 {
             self.tally.refused(Call::Close, answer.number, answer.place);
+            self.count_cowd(Call::Close, [answer.number, answer.place], image);
         }
         for row in rows(answer, image, room as u64) {
             self.tally.answered(Call::Close, row);
@@ -51,7 +53,8 @@ fn judged_rows(answer: Closed, image: &[u8], room: u64) -> Rows {
                 ("21, no output", room == 0),
             ]
         }
-        _ => unclosed(image, room),
+        41 => unclosed(image, room),
+        _ => Vec::new(),
     }
 }
 
@@ -178,9 +181,6 @@ fn stops(image: &[u8]) -> Rows {
 
 /// Rows of refusal 41.
 fn unclosed(image: &[u8], room: u64) -> Rows {
-    if image.starts_with(b"COWD") {
-        return vec![("41, COWD", true)];
-    }
     let [first, count, redundant, directory, overhead] =
         [28, 36, 48, 56, 64].map(|at| number(image, at, 8));
     let sectors = image.len() as u64 / 512;
@@ -216,11 +216,11 @@ fn joined(image: &[u8]) -> Option<Vec<u8>> {
     (closed.number == 0).then(|| [kept, &tail[..closed.length as usize]].concat())
 }
 
-/// A start, now and then what it is closed to, and an image.
+/// A start, now and then what it is closed to and an image, and each COWD one.
 pub fn case(run: &mut Run, rng: &mut Rng, image: &[u8], which: u64) {
     let start = made(rng, which);
     ask(run, rng, &start);
-    if rng.one_in(4) {
+    if is_cowd(image) || rng.one_in(4) {
         ask(run, rng, image);
     }
     if let (0, Some(mut whole)) = (rng.below(8), joined(&start)) {

@@ -1,6 +1,6 @@
 //! The survey on both sides: images of all kinds end to end, in lists of every length about the needed ones.
 
-use crate::cases::made;
+use crate::cases::{gone, made};
 use crate::frames::room;
 use crate::image::{anywhere, Plan};
 use crate::lists;
@@ -148,7 +148,8 @@ fn image(rng: &mut Rng, which: u64) -> Vec<u8> {
     };
     match rng.below(12) {
         0 => few_bytes(rng),
-        1 => anywhere(rng),
+        1 => anywhere(rng, false),
+        2 => gone(rng, plan, which).bytes,
         _ => {
             let damages = rng.pick(&[0, 0, 1, 1, 2]);
             made(rng, plan, which, damages).bytes

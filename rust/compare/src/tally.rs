@@ -1,6 +1,6 @@
 //! What was reached: a count for each call and each answer or refusal that it gave.
 
-use crate::answers::ANSWERS;
+use crate::answers;
 use crate::places::part;
 use crate::refusals::gives;
 use std::fmt::{self, Write};
@@ -77,7 +77,7 @@ impl Tally {
     pub fn new(calls: Vec<Call>) -> Tally {
         Tally {
             refusals: vec![[0; CALLS.len()]; NUMBERS as usize],
-            answers: vec![[0; CALLS.len()]; ANSWERS.len()],
+            answers: vec![[0; CALLS.len()]; answers::all().count()],
             strange: 0,
             comparisons: 0,
             differences: 0,
@@ -97,7 +97,7 @@ impl Tally {
     }
 
     pub fn answered(&mut self, call: Call, answer: &str) {
-        for (index, (name, calls)) in ANSWERS.iter().enumerate() {
+        for (index, (name, calls)) in answers::all().enumerate() {
             if *name == answer && calls.contains(&call) {
                 self.answers[index][call as usize] += 1;
                 return;
@@ -118,7 +118,7 @@ impl Tally {
                 calls,
             ));
         }
-        for (index, (name, calls)) in ANSWERS.iter().enumerate() {
+        for (index, (name, calls)) in answers::all().enumerate() {
             let calls = all().filter(|call| calls.contains(call)).collect();
             rows.push((name.to_string(), self.answers[index], calls));
         }

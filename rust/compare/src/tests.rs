@@ -35,17 +35,15 @@ fn sound_images_are_accepted() {
         assert_eq!(found, expected, "{case}: {shape:?}");
         for area in &built.areas {
             if matches!(area.what, What::Grain(_)) {
-                sizes.insert((shape.cowd, shape.packed, shape.grain_size));
+                sizes.insert((shape.packed, shape.grain_size));
             }
         }
-        if !shape.cowd {
-            heads.insert((shape.version, shape.flags & 0x4));
-        }
+        heads.insert((shape.version, shape.flags & 0x4));
         unused(rng, &mut built);
         assert_eq!(check(&built.bytes), verdict, "{case}: {:?}", built.shape);
     }
-    // 12 sizes of COWD, and 9 of KDMV, stored and packed.
-    assert_eq!(sizes.len(), 12 + 9 + 9, "{sizes:?}");
+    // 9 sizes, stored and packed.
+    assert_eq!(sizes.len(), 9 + 9, "{sizes:?}");
     // Flag 0x4, or not, in each version but the first.
     assert!(heads.iter().eq(&[(1, 0), (2, 0), (2, 4), (3, 0), (3, 4)]));
 }
@@ -121,7 +119,7 @@ fn frames_have_what_was_built() {
 #[test]
 fn checks_in_a_list_mark_what_was_built() {
     let mut met = 0;
-    for case in 0..600 {
+    for case in 0..700 {
         let rng = &mut Rng::new(13, case);
         let mut built = sound(rng, suited(any(100), case));
         let sum: u64 = built.areas.iter().map(|area| area.sectors).sum();
@@ -185,7 +183,6 @@ fn collapse_keeps_sectors_and_pairs_in_any_way() {
         let rng = &mut Rng::new(7, case);
         let grain_size = 8 << rng.below(3);
         let plan = Plan {
-            cowd: Some(false),
             packed: Some(false),
             size: Some((rng.within(1, 700 * grain_size), grain_size)),
             clean: true,
@@ -235,7 +232,7 @@ fn sound_texts_are_described() {
 /// The answer of a file by itself: an image's, plain sectors', or zeros.
 fn expected(extent: &Extent, file: &[u8], inside: u64) -> Located {
     match extent.kind {
-        3 | 4 => lookup(file, inside),
+        3 => lookup(file, inside),
         5 => Located {
             kind: ZERO,
             ..Located::default()
@@ -279,8 +276,8 @@ fn disks_serve_what_was_built() {
             }
         }
     }
-    // Five types, served and refused with two accesses, and refused with the third.
-    assert_eq!(kinds.len(), 5 * (2 + 2 + 1), "{kinds:?}");
+    // Four types, served and refused with two accesses, and refused with the third; COWD's, refused with all three.
+    assert_eq!(kinds.len(), 4 * (2 + 2 + 1) + 3, "{kinds:?}");
     assert!(counts.iter().eq(&[1, 2, 3, 4, 5, 6, 32]), "{counts:?}");
     assert_eq!(sums.last(), Some(&(1 << 31)));
 }

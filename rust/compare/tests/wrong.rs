@@ -20,6 +20,7 @@ macro_rules! mistakes {
 mod closes;
 mod dirty;
 mod frames;
+mod gone;
 mod marks;
 mod mends;
 mod miscounts;
@@ -28,6 +29,7 @@ mod ones;
 mod places;
 mod profiles;
 mod splits;
+mod told;
 
 use compare::cases::run_cases;
 use compare::run::Run;
@@ -42,7 +44,7 @@ use std::path::PathBuf;
 mistakes! {
     None:
     OverlapAccepted PlaceOfFirstGrain DescriptorNumbersSwapped PackedOffsetForgotten
-    ZerosByVersion ZerosByFlag ZerosInTablesOnly ZerosInCowd OldZerosIn11 FlagInVersion1
+    ZerosByVersion ZerosByFlag ZerosInTablesOnly OldZerosIn11 FlagInVersion1
     ZeroAsksTheParent LengthsThatWrap ShortPart LastGrainLeftOut EntryAsOneGrain RefusedInTotals
     NumberAtItsOwnWord TallyAddedTo ListsBefore21 WordPastTheRows SumThatWraps OneImageTooMany
     BytePastTheResult ByteOnRefusal LowerOverUpper RecordPastTheLast RecordOnRefusal

@@ -63,7 +63,7 @@ fn subcommand(name: &'static str) -> Command {
 
 pub fn command() -> Command {
     let command = Command::new("anhkhovet")
-        .about("Reads VMDK and COWD sparse disk images by a library that is proved")
+        .about("Reads VMDK sparse disk images, and moves COWD ones to that kind, by a library that is proved")
         .version(env!("CARGO_PKG_VERSION"))
         .after_help(STATUS)
         .subcommand_required(true)

@@ -25,7 +25,7 @@ struct Told<'a> {
 /// Whether an extent's image was still open, where that can be read, or why its file cannot be used.
 type Beside = Result<Option<bool>, Failure>;
 
-/// ZERO has no file, plain sectors have no header, and the file of NOACCESS is not opened.
+/// ZERO has no file, plain sectors have no header, and the files of NOACCESS and VMFSSPARSE are not opened.
 fn look(path: &Path, text: &Text, extent: &Extent) -> Beside {
     if extent.kind == ExtentKind::Zero {
         return Ok(None);
@@ -33,8 +33,8 @@ fn look(path: &Path, text: &Text, extent: &Extent) -> Beside {
     let name = text.part(&extent.name);
     beside::find(path, name)?;
     match (extent.access, extent.kind) {
-        (Access::None, _) | (_, ExtentKind::Flat | ExtentKind::Vmfs) => Ok(None),
-        _ => Ok(open(path, name)),
+        (Access::ReadWrite | Access::ReadOnly, ExtentKind::Sparse) => Ok(open(path, name)),
+        _ => Ok(None),
     }
 }
 

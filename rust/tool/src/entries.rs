@@ -4,7 +4,9 @@
 use crate::failure::Failure;
 use crate::frame::copy_parts;
 use crate::layer::Layer;
-use anhkhovet::{Area, SECTOR};
+use crate::mended::NOT_MENDABLE;
+use crate::room::up;
+use anhkhovet::{Area, Group, SECTOR};
 use std::ops::Range;
 
 /// Bytes of an entry.
@@ -14,27 +16,38 @@ const ENTRY: u64 = 4;
 const FLAGS: usize = 10;
 const PACKED: u8 = 1;
 
-/// Where the directory is, how many entries of it are in use, and how many a table has.
+/// Refusals that may be for want of markers, and the tables that name the grains.
+pub struct Unsure {
+    pub numbers: &'static [u64],
+    pub tables: &'static [Group],
+}
+
+/// Lookups and the check go by the primary tables alone.
+pub const CHECK: Unsure = Unsure {
+    numbers: &[9, 10],
+    tables: &[Group::PrimaryTable],
+};
+pub const MEND: Unsure = Unsure {
+    numbers: &[NOT_MENDABLE],
+    tables: &[Group::PrimaryTable, Group::RedundantTable],
+};
+
+/// Entries of a table.
+const ENTRIES: u64 = 512;
+
+/// Where the directory is, and how many entries of it are in use.
 struct Tables {
     directory: u64,
     used: u64,
-    entries: u64,
 }
 
 impl Tables {
     /// Of own bytes that have header and footer; nothing where these are refused.
     fn of(own: &[u8]) -> Option<Tables> {
         let disk = anhkhovet::header(own).ok()?.disk;
-        let (directory, entries) = if own.starts_with(b"COWD") {
-            (entry(own, 0, 5)?, 4096)
-        } else {
-            (directory(own)?, 512)
-        };
-        let held = entries * disk.grain_size;
         Some(Tables {
-            directory,
-            used: (disk.capacity + held - 1) / held,
-            entries,
+            directory: directory(own)?,
+            used: up(disk.capacity, ENTRIES * disk.grain_size),
         })
     }
 
@@ -46,7 +59,7 @@ impl Tables {
 
     /// The sectors of each table that the directory names.
     fn parts(&self, own: &[u8]) -> Vec<(u64, u64)> {
-        let sectors = self.entries * ENTRY / SECTOR;
+        let sectors = ENTRIES * ENTRY / SECTOR;
         (0..self.used)
             .filter_map(|number| entry(own, self.directory, number))
             .map(|first| (first, first + sectors))
@@ -55,12 +68,12 @@ impl Tables {
 
     /// Where a grain's entry is: its table's sector, and its number there.
     fn grain(&self, own: &[u8], grain: u64) -> Option<(u64, u64)> {
-        let table = entry(own, self.directory, grain / self.entries)?;
-        Some((table, grain % self.entries))
+        let table = entry(own, self.directory, grain / ENTRIES)?;
+        Some((table, grain % ENTRIES))
     }
 }
 
-/// The directory's sector in the header of a KDMV image, or in its footer where the header leaves it open.
+/// The directory's sector in the header, or in the footer where the header leaves it open.
 fn directory(own: &[u8]) -> Option<u64> {
     let number = |sector: usize| {
         let bytes = own.get(sector * SECTOR as usize..)?.get(56..64)?;
@@ -79,7 +92,8 @@ fn place(own: &[u8], first: u64, number: u64) -> Option<Range<usize>> {
     Some(place).filter(|place| place.end <= own.len())
 }
 
-fn entry(own: &[u8], first: u64, number: u64) -> Option<u64> {
+/// An entry, by its number, of what begins at a sector.
+pub fn entry(own: &[u8], first: u64, number: u64) -> Option<u64> {
     let bytes = own.get(place(own, first, number)?)?;
     Some(u32::from_le_bytes(bytes.try_into().ok()?).into())
 }

@@ -1,11 +1,11 @@
 //! The files of one command, as the library gets them: own bytes, several files end to end in one range, base first.
 
 use crate::alike::{disk, unlike};
-use crate::entries;
+use crate::cowd;
+use crate::entries::{self, Unsure, CHECK, MEND};
 use crate::failure::{Failure, Refusal};
 use crate::frame;
 use crate::layer::Layer;
-use crate::mended::NOT_MENDABLE;
 use crate::own::Own;
 use anhkhovet::{Area, ChainRefusal, Disk, Group, Located, Side};
 use std::fs::File;
@@ -34,22 +34,6 @@ struct Part {
     marked: &'static [Group],
 }
 
-/// Refusals that may be for want of markers, and the tables that name the grains.
-struct Unsure {
-    numbers: &'static [u64],
-    tables: &'static [Group],
-}
-
-/// Lookups and the check go by the primary tables alone.
-const CHECK: Unsure = Unsure {
-    numbers: &[9, 10],
-    tables: &[Group::PrimaryTable],
-};
-const MEND: Unsure = Unsure {
-    numbers: &[NOT_MENDABLE],
-    tables: &[Group::PrimaryTable, Group::RedundantTable],
-};
-
 impl Layers {
     pub fn open(paths: &[PathBuf]) -> Result<Layers, Failure> {
         let files: Result<Vec<_>, _> = paths.iter().map(|path| Layer::open(path)).collect();
@@ -67,10 +51,22 @@ impl Layers {
 
     /// Of files that are open already, what decides copied.
     pub fn of(files: Vec<Layer>) -> Result<Layers, Failure> {
+        Layers::framed(files, anhkhovet::frame)
+    }
+
+    /// An image that is to be moved, or was: COWD too, which nothing but a move takes.
+    pub fn to_move(file: Layer) -> Result<Layers, Failure> {
+        Layers::framed(vec![file], cowd::frame)
+    }
+
+    fn framed(
+        files: Vec<Layer>,
+        frame: fn(&[u8]) -> Result<Vec<Area>, anhkhovet::Refusal>,
+    ) -> Result<Layers, Failure> {
         let mut layers = Layers::laid_out(files)?;
         for (file, part) in layers.files.iter().zip(&mut layers.parts) {
             let own = &mut layers.own.bytes_mut()[part.bytes.clone()];
-            match frame::copy(file, own)? {
+            match frame::copy(file, own, frame)? {
                 Ok(areas) => part.frame = areas,
                 Err(refusal) => part.broken = refusal.number == 8,
             }

@@ -10,21 +10,24 @@ use crate::own::Own;
 use anhkhovet::{Area, Group, MisplacedPart, Refusal, SECTOR};
 use std::collections::HashSet;
 
-/// Here are header and footer. The header of a COWD image takes 2,048 bytes; a footer and the sector after it are the last
-/// 1,024 of whole sectors.
-const FIRST: usize = 2048;
+/// Here are header and footer: the first sector; a footer and the sector after it are the last 1,024 bytes of whole sectors.
+const FIRST: usize = 512;
 const LAST: usize = 1536;
 
 /// Of a file that stands still the second list has all that there is, and the third is the same.
 const ROUNDS: usize = 4;
 
-/// Copies the frame into own bytes that are zero, and lists the areas that were copied; or what the check refuses the image for, if
-/// 1 to 8.
-pub fn copy(layer: &Layer, own: &mut [u8]) -> Result<Result<Vec<Area>, Refusal>, Failure> {
+/// Copies the frame, as `frame` lists it, into own bytes that are zero, and lists the areas that were copied, or says why there
+/// is none.
+pub fn copy(
+    layer: &Layer,
+    own: &mut [u8],
+    frame: impl Fn(&[u8]) -> Result<Vec<Area>, Refusal>,
+) -> Result<Result<Vec<Area>, Refusal>, Failure> {
     copy_ends(layer, own)?;
     let mut copied = HashSet::new();
     for _ in 0..ROUNDS {
-        let mut areas = match anhkhovet::frame(own) {
+        let mut areas = match frame(own) {
             Ok(areas) => areas,
             Err(refusal) => return lowest(layer, own, refusal).map(Err),
         };

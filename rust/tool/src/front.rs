@@ -1,5 +1,6 @@
 //! What stands before the grains of a normal form (docs/COLLAPSE.md), and what a byte of it is for.
 
+use crate::room::up;
 use anhkhovet::{Disk, SECTOR};
 use std::ops::Range;
 
@@ -32,11 +33,6 @@ pub struct Front {
     tables: u64,
     /// The zeros before the first grain.
     gap: u64,
-}
-
-/// A quotient, rounded up.
-fn up(number: u64, by: u64) -> u64 {
-    (number + by - 1) / by
 }
 
 impl Front {

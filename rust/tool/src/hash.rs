@@ -53,6 +53,16 @@ impl Piece {
         })
     }
 
+    /// The same where it is known where they stand in the only file; absent ones do nowhere.
+    pub fn known(first: u64, sectors: u64, bytes: Option<Range<u64>>) -> Piece {
+        let place = bytes.map(|bytes| Place { file: 0, bytes });
+        Piece {
+            first,
+            sectors,
+            content: place.map_or(Content::Zeros, Content::Open),
+        }
+    }
+
     pub fn packed(&self) -> bool {
         matches!(self.content, Content::Packed(_))
     }

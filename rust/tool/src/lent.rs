@@ -33,7 +33,8 @@ impl Lent {
 }
 
 // SAFETY for all: what the library decides by is in the frame, which nobody changes (`crates/laws`: images that agree there have
-// the same check, lookups and length). A grain's bytes go to the output whatever they are, and of that nothing is read.
+// the same check, lookups and length; COWD files that agree in header, directory in use and its tables have the same answer from
+// `to_kdmv`). A grain's bytes go to the output whatever they are, and of that nothing is read.
 
 /// The length of what was written.
 pub fn normal(image: &Lent, output: &mut Mapping) -> Result<u64, Refusal> {

@@ -14,6 +14,7 @@ mod commands;
 mod copied;
 mod cores;
 mod coverage;
+mod cowd;
 mod describe;
 mod described;
 mod difference;

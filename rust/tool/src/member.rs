@@ -4,6 +4,7 @@ use crate::checked::checked;
 use crate::described::Described;
 use crate::failure::{Failure, Refusal};
 use crate::files::{same, Files, Layers};
+use crate::hint::NOT_READ;
 use crate::source::file_sector;
 use crate::still_open::still_open;
 use anhkhovet::{Access, ExtentKind, Source, SECTOR};
@@ -15,7 +16,7 @@ pub struct Member {
     pub first: u64,
     pub sectors: u64,
     kind: ExtentKind,
-    /// None for ZERO, and for NOACCESS, whose file nobody is to look at.
+    /// None for ZERO, for NOACCESS, whose file nobody is to look at, and for VMFSSPARSE, which is refused by its line alone.
     file: Option<Layers>,
     judged: Option<Judged>,
 }
@@ -54,11 +55,9 @@ impl Member {
     pub fn open(disk: &Described, number: usize) -> Result<Member, Failure> {
         let extent = &disk.extents[number];
         let file = match (extent.access, extent.kind) {
-            (Access::None, _) | (_, ExtentKind::Zero) => None,
+            (Access::None, _) | (_, ExtentKind::Zero | ExtentKind::VmfsSparse) => None,
             (_, ExtentKind::Flat | ExtentKind::Vmfs) => Some(Layers::plain(disk.open(number)?)?),
-            (_, ExtentKind::Sparse | ExtentKind::VmfsSparse) => {
-                Some(Layers::of(vec![disk.open(number)?])?)
-            }
+            (_, ExtentKind::Sparse) => Some(Layers::of(vec![disk.open(number)?])?),
         };
         Ok(Member {
             number,
@@ -104,8 +103,14 @@ impl Member {
     ) -> Result<T, Failure> {
         disk.file.same()?;
         same(&self.files())?;
-        let path = self.file.as_ref().map(|file| file.path(0));
-        answer.map_err(|why| Failure::Refused(Refusal::new(why, path)))
+        answer.map_err(|why| {
+            let path = match &self.file {
+                Some(file) => Some(file.path(0).to_path_buf()),
+                // It is named as what is to be moved.
+                None => disk.path(self.number).filter(|_| why.number == NOT_READ),
+            };
+            Failure::Refused(Refusal::new(why, path.as_deref()))
+        })
     }
 
     /// What the library's `split` says of a sector of this extent.
@@ -118,11 +123,11 @@ impl Member {
         self.told(disk, answer)
     }
 
-    /// The grain size of an image that is accepted and has its line's capacity. The order is that of `split`: 45 for an image
-    /// of the other type, the check's numbers, 38 for another capacity. `split` itself tells 45 and 38.
+    /// The grain size of an image that is accepted and has its line's capacity. The order is that of `split`: 45 for a COWD
+    /// image, the check's numbers, 38 for another capacity. `split` itself tells 45 and 38.
     fn image(&mut self, disk: &Described) -> Result<Option<u64>, Failure> {
         let file = match (&mut self.file, self.kind) {
-            (Some(file), ExtentKind::Sparse | ExtentKind::VmfsSparse) => file,
+            (Some(file), ExtentKind::Sparse) => file,
             _ => return Ok(None),
         };
         // The magic alone decides on 45.
@@ -169,9 +174,7 @@ impl Member {
     /// Where the bytes of `sectors` from `first` on are in the file, all of them of one grain, with this source.
     pub fn place(&self, source: Source, first: u64, sectors: u64) -> Range<u64> {
         match (self.kind, &self.file) {
-            (ExtentKind::Sparse | ExtentKind::VmfsSparse, Some(file)) => {
-                file.row(0, first - self.first, sectors)
-            }
+            (ExtentKind::Sparse, Some(file)) => file.row(0, first - self.first, sectors),
             _ => {
                 let at = file_sector(source).unwrap_or(0);
                 SECTOR * at..SECTOR * (at + sectors)

@@ -1,11 +1,14 @@
 //! `move`: images written as the other kind, and the digest of all sectors of each result.
 
 use crate::cli::Target;
+use crate::cowd::Cowd;
 use crate::failure::{Failure, Refusal, Status};
-use crate::files::Layers;
+use crate::files::{same, Files, Layers};
 use crate::given::Given;
+use crate::grains::Grains;
 use crate::hash::{digits, Hasher, Piece};
 use crate::hint::hinted;
+use crate::layer::Layer;
 use crate::lent::{self, Lent};
 use crate::names::{name, put_name};
 use crate::output::Output;
@@ -63,41 +66,69 @@ fn judged(image: &mut Layers, kind: Kind) -> Result<(), Failure> {
     Err(Failure::Refused(refusal))
 }
 
-/// What of an accepted image the other kind has no place for.
+/// What of an accepted image the other kind has no place for: KDMV for the grain size, COWD for a grain.
 fn unmovable(image: &[u8]) -> String {
+    if let Some(old) = Cowd::of(image) {
+        return format!("its grain size is {}", old.disk.grain_size);
+    }
     let disk = match anhkhovet::header(image) {
         Ok(header) => header.disk,
         Err(_) => return String::new(),
     };
     let size = disk.grain_size;
     let mut grains = (0..disk.capacity).step_by(size as usize);
-    match grains.find(|first| anhkhovet::lookup(image, *first) == Ok(Source::Zero)) {
-        Some(first) => format!("grain {} is marked as zeros", first / size),
-        None => format!("its grain size is {size}"),
-    }
+    let zero = grains.find(|first| anhkhovet::lookup(image, *first) == Ok(Source::Zero));
+    zero.map_or_else(String::new, |first| {
+        format!("grain {} is marked as zeros", first / size)
+    })
 }
 
-/// The digest of an image's sectors in order, as a raw disk of them would have it.
-fn digest(image: Layers) -> Result<String, Failure> {
-    let mut given = Given::Layers(image);
-    let cut = given.grains()?;
-    let files = given.files();
-    let mut hasher = Hasher::new(&files);
+/// The digest of a result's sectors in order, as a raw disk of them would have it. No lookup takes COWD: there entries tell, which
+/// are judged as they are read back.
+fn digest(kind: Kind, mut result: Layers) -> Result<String, Failure> {
+    let files = result.files();
+    let digest = match kind {
+        Kind::Cowd => {
+            judged(&mut result, Kind::Kdmv)?;
+            let changed = || Failure::changed(result.path(0));
+            let old = Cowd::of(result.bytes(0)).ok_or_else(changed)?;
+            hashed(&files, &Grains::of(old.disk), |first, sectors| {
+                Ok(Piece::known(first, sectors, old.place(first, sectors)))
+            })?
+        }
+        Kind::Kdmv => {
+            let mut given = Given::Layers(result);
+            let cut = given.grains()?;
+            hashed(&files, &cut, |first, sectors| {
+                Piece::of(&mut given, first, sectors)
+            })?
+        }
+    };
+    same(&files)?;
+    Ok(digest)
+}
+
+/// The digest of all pieces, which are grains or the last one's part.
+fn hashed(
+    files: &Files,
+    cut: &Grains,
+    mut piece: impl FnMut(u64, u64) -> Result<Piece, Failure>,
+) -> Result<String, Failure> {
+    let mut hasher = Hasher::new(files);
     let mut hash = Sha256::new();
     let mut first = 0;
     while first < cut.capacity() {
         let sectors = cut.around(first).end - first;
-        hasher.add(&Piece::of(&mut given, first, sectors)?, &mut hash)?;
+        hasher.add(&piece(first, sectors)?, &mut hash)?;
         first += sectors;
     }
-    given.same()?;
     let digits = digits(&hash.finalize().into());
     Ok(digits.iter().map(|&digit| char::from(digit)).collect())
 }
 
 /// One image, of all that are read.
 fn moved(path: &Path, target: &Target, inputs: &[PathBuf]) -> Result<Moved, Failure> {
-    let mut image = Layers::one(path)?;
+    let mut image = Layers::to_move(Layer::open(path)?)?;
     let output = Output::create(target, inputs)?;
     let kind = way(image.bytes(0));
     judged(&mut image, kind)?;
@@ -106,7 +137,8 @@ fn moved(path: &Path, target: &Target, inputs: &[PathBuf]) -> Result<Moved, Fail
     image.same()?;
     let length = written.map_err(Failure::refused(path))?;
     let output = mapped.cut(length)?;
-    let digest = digest(Layers::of_file(&target.path, output.file()?)?)?;
+    let result = Layer::of(&target.path, output.file()?)?;
+    let digest = digest(kind, Layers::to_move(result)?)?;
     output.finish()?;
     Ok(Moved {
         kind,

@@ -1,15 +1,16 @@
 //! How long the result of `normal`, `collapse` and `move` is: docs/COLLAPSE.md has the layouts.
 
 use crate::cores;
+use crate::cowd::Cowd;
 use crate::failure::Failure;
-use anhkhovet::{Disk, Source, SECTOR};
+use anhkhovet::{Disk, Refusal, Source, SECTOR};
 use std::ops::Range;
 
 /// Grains that are looked up in one go.
 const BATCH: u64 = 1 << 16;
 
 /// A quotient, rounded up.
-fn up(number: u64, by: u64) -> u64 {
+pub fn up(number: u64, by: u64) -> u64 {
     (number + by - 1) / by
 }
 
@@ -37,20 +38,28 @@ impl Kind {
     }
 }
 
-/// Images that are accepted and alike, lowest first, and what is made of them.
+/// Images that are accepted and alike, lowest first, and what is made of them. A COWD image, which is moved, is the only one.
 pub struct Room<'a> {
-    pub kind: Kind,
-    pub disk: Disk,
-    pub images: &'a [&'a [u8]],
+    kind: Kind,
+    disk: Disk,
+    images: &'a [&'a [u8]],
 }
 
-impl Room<'_> {
+impl<'a> Room<'a> {
+    pub fn of(kind: Kind, images: &'a [&'a [u8]]) -> Result<Room<'a>, Refusal> {
+        let disk = match Cowd::of(images[0]) {
+            Some(old) => old.disk,
+            None => anhkhovet::header(images[0])?.disk,
+        };
+        Ok(Room { kind, disk, images })
+    }
+
     fn grains(&self) -> u64 {
         up(self.disk.capacity, self.disk.grain_size)
     }
 
     /// Header, directory and tables, then the stored grains: in KDMV from a multiple of their size on.
-    fn length(&self, stored: u64) -> u64 {
+    pub fn length(&self, stored: u64) -> u64 {
         let size = self.disk.grain_size;
         let (header, table) = self.kind.parts();
         // 128 entries fill a sector.
@@ -70,8 +79,11 @@ impl Room<'_> {
         self.length(self.grains().min(held.sum()))
     }
 
-    /// The length itself, by a lookup a grain: that takes a second for a disk of a tebibyte.
+    /// The length itself, by a lookup a grain: that takes a second for a disk of a tebibyte. Of COWD the entries tell.
     pub fn counted(&self) -> Result<u64, Failure> {
+        if let Some(old) = Cowd::of(self.images[0]) {
+            return Ok(self.length(old.stored()));
+        }
         let grains = self.grains();
         let mut batches = (0..up(grains, BATCH)).map(|batch| {
             let first = batch * BATCH;
@@ -114,8 +126,7 @@ mod tests {
 
     /// What the library then writes has the length that was counted.
     fn right(kind: Kind, images: &[&[u8]], written: Result<u64, anhkhovet::Refusal>) {
-        let disk = anhkhovet::check(images[0]).expect("accepted");
-        let room = Room { kind, disk, images };
+        let room = Room::of(kind, images).expect("accepted");
         assert_eq!(room.counted().expect("counted"), written.expect("written"));
         assert!(room.most() >= written.expect("written"));
     }

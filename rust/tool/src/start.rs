@@ -11,9 +11,6 @@ use std::{io, iter};
 /// The refusal of what is no start that can be closed.
 const NOT_CLOSABLE: u64 = 41;
 
-/// The header of a COWD image takes as many bytes; a KDMV image has less.
-const HEADER: usize = 2048;
-
 /// Bytes of a marker: first number, size, type.
 const MARKER: usize = 16;
 
@@ -96,7 +93,7 @@ impl Start {
     fn copy(&mut self) -> Result<(), Failure> {
         let length = self.length();
         let own = &mut self.own.bytes_mut()[..length];
-        self.file.read(0, &mut own[..HEADER.min(length)])?;
+        self.file.read(0, &mut own[..length.min(SECTOR as usize)])?;
         let sectors = length as u64 / SECTOR;
         let mut at = Some(number(own, 64, 8)).filter(|_| sectors <= MOST_SECTORS);
         while let Some(marker) = at.filter(|marker| *marker > 0 && *marker < sectors) {
@@ -175,9 +172,6 @@ fn ground(own: &[u8]) -> String {
     let [first, sectors, redundant, directory, overhead] =
         [28, 36, 48, 56, 64].map(|at| number(own, at, 8));
     let all = own.len() as u64 / SECTOR;
-    if own.starts_with(b"COWD") {
-        return "it is a COWD image".to_string();
-    }
     if directory != u64::MAX {
         return format!("its header has the directory at sector {directory}, not at the end");
     }

@@ -6,6 +6,7 @@ use crate::alike::unlike;
 use crate::cli::Target;
 use crate::failure::{Failure, Refusal, Status};
 use crate::files::Layers;
+use crate::hint::NOT_READ;
 use crate::lent::{self, Lent};
 use crate::names::{name, put_name};
 use crate::output::{Mapped, Output};
@@ -27,12 +28,7 @@ pub fn refusal(asked: Result<u64, anhkhovet::Refusal>) -> Option<anhkhovet::Refu
 /// An output for what is made of these images, lowest first, which are not refused.
 pub fn mapped(kind: Kind, output: Output, images: &[&Layers]) -> Result<Mapped, Failure> {
     let bytes: Vec<&[u8]> = images.iter().map(|image| image.bytes(0)).collect();
-    let header = anhkhovet::header(bytes[0]).map_err(Failure::refused(images[0].path(0)))?;
-    let room = Room {
-        kind,
-        disk: header.disk,
-        images: &bytes,
-    };
+    let room = Room::of(kind, &bytes).map_err(Failure::refused(images[0].path(0)))?;
     let most = room.most();
     if output.is_little(most) && output.reserve(most).is_ok() {
         return output.map(most);
@@ -75,13 +71,13 @@ pub fn normal(path: &Path, target: &Target, json: bool) -> Result<(), Failure> {
 /// Whose refusal it is: the library judges the lower image, then the upper one, and tells only the number.
 fn blamed(why: anhkhovet::Refusal, lower: (&Path, &[u8]), upper: (&Path, &[u8])) -> Refusal {
     let lowers = match why.number {
-        1..=12 => anhkhovet::check(lower.1).is_err(),
+        1..=12 | NOT_READ => anhkhovet::check(lower.1).is_err(),
         23 => anhkhovet::normal(lower.1, &mut []) == Err(why),
         _ => false,
     };
     let file = match why.number {
-        1..=12 | 23 if lowers => Some(lower.0),
-        1..=12 | 23 => Some(upper.0),
+        1..=12 | 23 | NOT_READ if lowers => Some(lower.0),
+        1..=12 | 23 | NOT_READ => Some(upper.0),
         _ => None,
     };
     let mut refusal = Refusal::new(why, file);

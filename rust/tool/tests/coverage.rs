@@ -109,7 +109,8 @@ fn samples() {
         "tool-packed.vmdk",
     ];
     let folder = Folder::new().with(&names).with(&["cowd-s001.vmdk"]);
-    right(&folder, &["cowd-s001.vmdk"]);
+    disks::lab(&folder);
+    right(&folder, &["lab.vmdk"]);
     for upper in 1..=names.len() {
         for lower in 0..upper {
             right(&folder, &names[lower..upper]);
@@ -183,9 +184,12 @@ fn a_disk_of_several_files() {
     assert_eq!(number(&said, "capacity"), disks::CAPACITY);
     // Its images have two grain sizes.
     assert_eq!(said["disk"]["grains"], Value::Null);
-    for (extent, name) in
-        [(0, 1), (3, 0), (6, 2)].map(|(extent, name)| (extent, disks::SAMPLES[name]))
-    {
+    let images = [
+        (0, "tool-base.vmdk"),
+        (3, "lab.vmdk"),
+        (6, "tool-packed.vmdk"),
+    ];
+    for (extent, name) in images {
         let alone = right(&folder, &[name]);
         let (row, alone) = (&said["coverage"][extent], &alone["coverage"][0]);
         assert!(columns(row).eq(columns(alone)), "{row} {alone}");

@@ -155,7 +155,7 @@ fn an_extent_is_checked_mapped_and_digested() {
     disk("larger", "RW 641 SPARSE \"apart\"");
     for (name, why) in [
         ("refused", SHARED),
-        ("other", "refused 45: "),
+        ("other", "refused 43: "),
         ("larger", "refused 38: "),
     ] {
         let ran = run(folder.path(), &["check", name]);

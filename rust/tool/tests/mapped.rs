@@ -78,13 +78,18 @@ fn holds(words: &[&str], data: usize) {
     let disk = Image::twofold(&folder.at("disk"), CAPACITY).filled();
     disk.put(512 * disk.start, &vec![7; data]);
     Image::new(&folder.at("delta"), CAPACITY);
-    run(folder.path(), &[words, &["-o", "right"]].concat()).well();
-    let right = fs::read(folder.at("right")).expect("the output");
     let last = CAPACITY / GRAIN / 512 * 512 - 512;
     let mut table = Table::new(&disk.file, disk.entry_at(last));
+    holds_in(&folder, words, &mut table);
+}
+
+/// Of `disk`, with this table.
+fn holds_in(folder: &Folder, words: &[&str], table: &mut Table) {
+    run(folder.path(), &[words, &["-o", "right"]].concat()).well();
+    let right = fs::read(folder.at("right")).expect("the output");
     let mut unseen = 0;
     for _ in 0..5 {
-        let ran = turned(&folder, &[words, &["-o", "out"]].concat(), &mut table);
+        let ran = turned(folder, &[words, &["-o", "out"]].concat(), table);
         if ran.status == Some(0) {
             let out = fs::read(folder.at("out")).expect("the output");
             assert!(out == right, "it is not what was read first");
@@ -107,6 +112,22 @@ fn normal() {
 #[test]
 fn moves() {
     holds(&["move", "disk"], 0);
+}
+
+/// The same disk as COWD has it: one table, from sector 5 on, of which the last 512 entries in use turn.
+#[test]
+fn moves_from_cowd() {
+    let folder = Folder::in_memory();
+    Image::new(&folder.at("young"), CAPACITY).filled();
+    run(folder.path(), &["move", "young", "-o", "disk"]).well();
+    let disk = File::options()
+        .read(true)
+        .write(true)
+        .open(folder.at("disk"));
+    let entry = CAPACITY / GRAIN - 512;
+    let mut table = Table::new(&disk.expect("the image"), 5 * 512 + 4 * entry);
+    assert!(table.bytes().iter().any(|byte| *byte != 0));
+    holds_in(&folder, &["move", "disk"], &mut table);
 }
 
 #[test]

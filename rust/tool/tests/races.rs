@@ -6,25 +6,20 @@ mod common;
 mod held;
 #[path = "common/image.rs"]
 mod image;
+#[path = "common/labs.rs"]
+mod labs;
+#[path = "common/race.rs"]
+mod race;
 
 use common::{emulated, run, tool, Folder, Ran};
 use held::begun;
-use image::{put_back, Image, GRAIN};
-use std::fs::{self, File};
-use std::os::unix::fs::FileExt;
-use std::path::Path;
+use image::{Image, GRAIN};
+use race::{race, Answer, Race, Step, StopAtEnd};
+use std::fs;
 use std::sync::atomic::{AtomicBool, Ordering::Relaxed};
 use std::thread;
-use std::time::Duration;
 
 const GRAINS: u64 = 16;
-const CHANGED: &str = "disk: the file changed while it was read";
-
-/// One write, inside one page: so there is no state between.
-struct Step {
-    at: u64,
-    bytes: Vec<u8>,
-}
 
 /// Tables, directory and header of an image in turn, each from one valid state to another or to a damaged one and back.
 fn steps() -> Vec<Step> {
@@ -60,161 +55,99 @@ fn make(folder: &Folder) {
     Image::new(&folder.at("delta"), GRAIN * GRAINS).entry(5, 1);
 }
 
-/// What a run came to.
-#[derive(Debug, PartialEq, Eq)]
-struct Answer {
-    status: Option<i32>,
-    out: Vec<u8>,
-    err: String,
-    written: Option<Vec<u8>>,
+const KDMV: Race = Race { make, steps };
+
+/// A lab, whose header, directory and table change in turn: it has another place for its directory, and none; its grains change
+/// places; it is cut to one of its grains; and it is refused for its version, its capacity, its dirty number and an entry.
+fn old_steps() -> Vec<Step> {
+    let word = |number: u32| number.to_le_bytes().to_vec();
+    let (capacity, directory, table) = (12, 4 * 512, 5 * 512);
+    [
+        (20, word(600)),
+        (20, word(4)),
+        (directory, word(0)),
+        (directory, word(5)),
+        (
+            table,
+            [45u32, 0, 37]
+                .iter()
+                .flat_map(|entry| entry.to_le_bytes())
+                .collect(),
+        ),
+        (
+            table,
+            [37u32, 0, 45]
+                .iter()
+                .flat_map(|entry| entry.to_le_bytes())
+                .collect(),
+        ),
+        (capacity, word(8)),
+        (capacity, word(0)),
+        (capacity, word(labs::CAPACITY as u32)),
+        (4, word(2)),
+        (4, word(1)),
+        (1648, word(1)),
+        (1648, word(0)),
+        (table + 4, word(u32::MAX)),
+        (table + 4, word(0)),
+    ]
+    .map(|(at, bytes)| Step { at, bytes })
+    .into()
 }
 
-impl Answer {
-    fn of(folder: &Folder, ran: Ran) -> Answer {
-        let written = fs::read(folder.at("out")).ok();
-        let _ = fs::remove_file(folder.at("out"));
-        assert_eq!(folder.names(), ["delta", "disk"], "something is left");
-        Answer {
-            status: ran.status,
-            out: ran.out,
-            err: ran.err,
-            written,
-        }
-    }
-
-    fn reports_a_change(&self) -> bool {
-        let told = String::from_utf8_lossy(&self.out).into_owned() + &self.err;
-        self.status == Some(4) && self.written.is_none() && told.contains(CHANGED)
-    }
-}
-
-/// The answers for all states of the file, each standing still.
-fn answers(words: &[&str]) -> Vec<Answer> {
-    let folder = Folder::new();
-    make(&folder);
-    let disk = File::options().write(true).open(folder.at("disk"));
-    let disk = disk.expect("the image");
-    let mut answers = Vec::new();
-    for step in steps() {
-        disk.write_all_at(&step.bytes, step.at).expect("written");
-        let answer = Answer::of(&folder, run(folder.path(), words));
-        assert!(matches!(answer.status, Some(0 | 1)), "{answer:?}");
-        answers.push(answer);
-    }
-    answers
-}
-
-/// Numbers as if by chance.
-struct Chance(u64);
-
-impl Chance {
-    fn below(&mut self, end: u64) -> u64 {
-        self.0 ^= self.0 << 13;
-        self.0 ^= self.0 >> 7;
-        self.0 ^= self.0 << 17;
-        self.0 % end
-    }
-}
-
-/// Goes through the steps, over and over, with pauses of any length, until it is told to stop.
-fn rewrite(path: &Path, back: bool, stop: &AtomicBool) {
-    let file = File::options().read(true).write(true).open(path);
-    let file = file.expect("the image");
-    let facts = file.metadata().expect("facts");
-    let mut chance = Chance(0x2545_f491_4f6c_dd1d);
-    for step in steps().iter().cycle() {
-        if stop.load(Relaxed) {
-            return;
-        }
-        file.write_all_at(&step.bytes, step.at).expect("written");
-        if back {
-            put_back(&file, &facts);
-        }
-        let pause = 1 << chance.below(14);
-        thread::sleep(Duration::from_micros(pause));
-    }
-}
-
-/// Runs a command many times on an image that is rewritten all the while, until there were answers and reports.
-fn race(words: &[&str]) {
-    let right = answers(words);
-    let runs = if emulated() { 6 } else { 50 };
-    for back in [false, true] {
-        let (mut answered, mut reported) = (0, 0);
-        let folder = Folder::new();
-        make(&folder);
-        let stop = AtomicBool::new(false);
-        thread::scope(|scope| {
-            let stopped = StopAtEnd(&stop);
-            scope.spawn(|| rewrite(&folder.at("disk"), back, &stop));
-            while answered + reported < runs
-                || (answered == 0 || reported == 0) && answered + reported < 20 * runs
-            {
-                let answer = Answer::of(&folder, run(folder.path(), words));
-                if answer.reports_a_change() {
-                    // What was told before is right for one state.
-                    let told = |right: &Answer| right.out.starts_with(&answer.out);
-                    assert!(words[0] != "digest" || right.iter().any(told), "{answer:?}");
-                    reported += 1;
-                } else {
-                    assert!(right.contains(&answer), "{answer:?}");
-                    answered += 1;
-                }
-            }
-            drop(stopped);
-        });
-        println!("{words:?}: {answered} answers, {reported} reports");
-        assert!(answered > 0 && reported > 0, "{answered} {reported}");
-    }
-}
-
-/// Stops the writer, also where the test fails.
-struct StopAtEnd<'a>(&'a AtomicBool);
-
-impl Drop for StopAtEnd<'_> {
-    fn drop(&mut self) {
-        self.0.store(true, Relaxed);
-    }
-}
+const COWD: Race = Race {
+    make: |folder| {
+        fs::write(folder.at("disk"), labs::lab(1, 8)).expect("written");
+        fs::write(folder.at("delta"), labs::lab(2, 8)).expect("written");
+    },
+    steps: old_steps,
+};
 
 #[test]
 fn check() {
-    race(&["check", "disk"]);
+    race(&KDMV, &["check", "disk"]);
 }
 
 #[test]
 fn survey() {
-    race(&["survey", "--json", "disk"]);
+    race(&KDMV, &["survey", "--json", "disk"]);
 }
 
 #[test]
 fn profile() {
-    race(&["profile", "disk"]);
+    race(&KDMV, &["profile", "disk"]);
 }
 
 #[test]
 fn map() {
-    race(&["map", "disk", "delta"]);
+    race(&KDMV, &["map", "disk", "delta"]);
 }
 
 #[test]
 fn coverage() {
-    race(&["map", "--coverage", "disk", "delta"]);
+    race(&KDMV, &["map", "--coverage", "disk", "delta"]);
 }
 
 #[test]
 fn digest() {
-    race(&["digest", "disk"]);
+    race(&KDMV, &["digest", "disk"]);
 }
 
 #[test]
 fn normal() {
-    race(&["normal", "disk", "-o", "out"]);
+    race(&KDMV, &["normal", "disk", "-o", "out"]);
+}
+
+/// Of either kind, each to the other one.
+#[test]
+fn moves() {
+    race(&KDMV, &["move", "disk", "-o", "out"]);
+    race(&COWD, &["move", "disk", "-o", "out"]);
 }
 
 #[test]
 fn collapse() {
-    race(&["collapse", "disk", "delta", "-o", "out"]);
+    race(&KDMV, &["collapse", "disk", "delta", "-o", "out"]);
 }
 
 /// Entries turn from absent to stored and back once the output is begun: what the library counted before it wrote must be what

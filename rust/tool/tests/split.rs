@@ -52,7 +52,7 @@ fn all_types_are_digested_as_their_files_are() {
         "tool-base.vmdk",
         "zeros",
         "flat-four",
-        "cowd-s001.vmdk",
+        "lab.vmdk",
         "flat-last",
         "flat-first",
         "tool-packed.vmdk",
@@ -222,10 +222,7 @@ fn grains_of_a_disk_need_one_size_and_their_places() {
         (format!("RW 7 {plain}{base}"), false),
         (format!("RW 7 {plain}"), false),
         (format!("{base}RW 256 ZERO\n{base}"), true),
-        (
-            format!("{base}RW 100 VMFSSPARSE \"cowd-s001.vmdk\"\n"),
-            false,
-        ),
+        (format!("{base}RW 100 SPARSE \"lab.vmdk\"\n"), false),
     ] {
         descriptor(&folder, "disk", &lines);
         let ran = run(folder.path(), &["digest", "--grain", "disk"]);
@@ -239,12 +236,12 @@ fn grains_of_a_disk_need_one_size_and_their_places() {
 #[test]
 fn a_sector_needs_its_own_file_alone() {
     let folder = all_types();
-    for name in ["tool-base.vmdk", "cowd-s001.vmdk", "tool-packed.vmdk"] {
+    for name in ["tool-base.vmdk", "lab.vmdk", "tool-packed.vmdk"] {
         fs::remove_file(folder.at(name)).expect("removed");
     }
     assert!(told(&folder, "sector all 2056").contains("extent 2 (plain), file sector 1"));
     assert!(told(&folder, "sector all 2048").contains("zero in extent 1"));
-    let missing = "all: extent 3: cowd-s001.vmdk: cannot be opened";
+    let missing = "all: extent 3: lab.vmdk: cannot be opened";
     run(folder.path(), &["sector", "all", "2060"]).ill(missing);
     run(folder.path(), &["map", "all"]).ill("all: extent 0: tool-base.vmdk: cannot be opened");
 }

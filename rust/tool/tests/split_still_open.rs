@@ -42,7 +42,7 @@ fn extents(said: &Value) -> Vec<Option<bool>> {
 #[test]
 fn the_whole_disk_names_each() {
     let folder = folder();
-    let notes = note("open-disk", 0, "open-base") + &note("open-disk", 4, "open-cowd");
+    let notes = note("open-disk", 0, "open-base") + &note("open-disk", 4, "open-lab");
     for words in [
         "map open-disk",
         "digest open-disk",
@@ -57,7 +57,7 @@ fn the_whole_disk_names_each() {
             let wanted = [Some(true), None, None, Some(false), Some(true)];
             assert_eq!(extents(&said), wanted, "{words}");
         } else {
-            assert_eq!(said["open_files"], json!(["open-base", "open-cowd"]));
+            assert_eq!(said["open_files"], json!(["open-base", "open-lab"]));
         }
     }
 }
@@ -71,7 +71,7 @@ fn a_sector_names_its_own_extent_alone() {
         (2050, String::new()),
         (2056, String::new()),
         (2064, String::new()),
-        (4112, note("open-disk", 4, "open-cowd")),
+        (4112, note("open-disk", 4, "open-lab")),
     ] {
         for command in ["sector", "read"] {
             let words = format!("{command} open-disk {sector}");
@@ -116,7 +116,7 @@ fn beside_refusals() {
     assert_eq!(said["extents"][6]["refused"]["number"], 39);
     let ran = told(&folder, "describe torn-disk");
     let notes = note("torn-disk", 0, "open-base")
-        + &note("torn-disk", 4, "open-cowd")
+        + &note("torn-disk", 4, "open-lab")
         + &note("torn-disk", 5, "open-cut");
     assert_eq!((ran.status, &ran.err), (Some(0), &notes));
     assert_eq!(

@@ -41,7 +41,7 @@ fn counts(object: &Value) -> [u64; 4] {
     KINDS.map(|kind| number(&object[kind]))
 }
 
-/// Every sample: packed ones, COWD, streams, and some that are texts and so refused.
+/// Every sample: packed ones, streams, and some that are texts or COWD and so refused.
 #[test]
 fn counts_are_those_of_the_map() {
     let folder = samples();
@@ -56,7 +56,8 @@ fn counts_are_those_of_the_map() {
     for (row, file) in rows.iter().zip(&files) {
         assert_eq!(row["file"], *file);
         if row.get("accepted").is_none() {
-            assert_eq!(row["refused"]["number"], 2, "{row}");
+            let number = if file == "cowd-s001.vmdk" { 43 } else { 2 };
+            assert_eq!(row["refused"]["number"], number, "{row}");
             continue;
         }
         let found = counts(&row["accepted"]);
@@ -75,11 +76,15 @@ fn counts_are_those_of_the_map() {
     assert_eq!(counts(&said["totals"]), totals);
     assert_eq!(said["totals"]["capacity"], capacity);
     assert_eq!(said["totals"]["images"], accepted);
-    assert_eq!(said["tally"][0]["images"], files.len() - accepted);
+    assert_eq!(said["tally"][0]["images"], files.len() - accepted - 1);
+    assert_eq!(
+        (&said["tally"][1]["number"], &said["tally"][1]["images"]),
+        (&json!(43), &json!(1))
+    );
     assert_eq!(said["unread"], 0);
 }
 
-/// Three images that are accepted, one cut, one with two faults, one that is no image, and what cannot be read.
+/// Two images that are accepted, one cut, one with two faults, one that is COWD, one that is none, and what cannot be read.
 fn mixed() -> Folder {
     let folder = Folder::new().with(&["tool-base.vmdk", "tool-packed.vmdk", "cowd-s001.vmdk"]);
     let base = fs::read(folder.at("tool-base.vmdk")).expect("a sample");
@@ -125,20 +130,20 @@ fn what_cannot_be_read_stands_in_its_row() {
     };
     let rows = said["files"].as_array().expect("rows");
     let verdicts: Vec<u64> = rows.iter().map(verdict).collect();
-    assert_eq!(verdicts, [99, 0, 9, 99, 0, 1, 9, 99, 0, 0]);
+    assert_eq!(verdicts, [99, 0, 9, 99, 0, 1, 9, 99, 43, 0]);
     let tally: Vec<[u64; 2]> = said["tally"]
         .as_array()
         .expect("a tally")
         .iter()
         .map(|tallied| [number(&tallied["number"]), number(&tallied["images"])])
         .collect();
-    assert_eq!(tally, [[1, 1], [9, 2]]);
+    assert_eq!(tally, [[1, 1], [9, 2], [43, 1]]);
     assert_eq!(
         (&said["totals"]["images"], &said["unread"]),
-        (&json!(4), &json!(3))
+        (&json!(3), &json!(3))
     );
-    // Twice two of the base, four of COWD; two of the packed image.
-    assert_eq!(counts(&said["totals"]), [8, 0, 51, 2]);
+    // Twice two of the base; two of the packed image.
+    assert_eq!(counts(&said["totals"]), [4, 0, 42, 2]);
 }
 
 /// The same in words: a line for each file, then the totals, and lines for what is no image.
@@ -161,18 +166,19 @@ fn lines_for_people() {
         (6, "refused 1: the file is too short"),
         (
             11,
-            "3.0  8  13.1%  0   0.0%  51  83.6%  2   3.3%  4 of 10 accepted",
+            "3.0  4   8.3%  0   0.0%  42  87.5%  2   4.2%  3 of 10 accepted",
         ),
         (12, "refused 1, 1 image: the file is too short"),
         (13, "refused 9, 2 images: the grain runs past"),
-        (14, "not read: 3 files"),
+        (14, "refused 43, 1 image: it is a COWD image"),
+        (15, "not read: 3 files"),
     ];
     for (line, wanted) in words {
         let plain = lines[line].split_whitespace().collect::<Vec<_>>().join(" ");
         let wanted = wanted.split_whitespace().collect::<Vec<_>>().join(" ");
         assert!(plain.contains(&wanted), "no '{wanted}' in: {plain}");
     }
-    assert_eq!(lines.len(), 15);
+    assert_eq!(lines.len(), 16);
 }
 
 /// Refused images alone are an answer, and a share of nothing is none.

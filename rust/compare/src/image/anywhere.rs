@@ -1,4 +1,4 @@
-//! Small images for the frame: their areas stand anywhere, over one another too, and every sector is one of entries.
+//! Small images for frame and moves: their areas stand anywhere, over one another too, and every sector is one of entries.
 
 use super::put;
 use crate::rng::Rng;
@@ -19,9 +19,9 @@ struct Numbers {
     stored_entries: u64,
 }
 
-pub fn anywhere(rng: &mut Rng) -> Vec<u8> {
+pub fn anywhere(rng: &mut Rng, cowd: bool) -> Vec<u8> {
     let wrong = rng.below(12);
-    let numbers = Numbers::choose(rng, wrong);
+    let numbers = Numbers::choose(rng, cowd, wrong);
     let last = numbers.f - table_sectors(numbers.cowd);
     let mut image = vec![0; (numbers.f * 512) as usize];
     // Wherever a directory stands, its entries name tables that fit, or none.
@@ -48,8 +48,7 @@ pub fn anywhere(rng: &mut Rng) -> Vec<u8> {
 
 impl Numbers {
     /// `wrong` says which one is: the directory, the redundant one, the descriptor or the stored entries.
-    fn choose(rng: &mut Rng, wrong: u64) -> Numbers {
-        let cowd = rng.one_in(3);
+    fn choose(rng: &mut Rng, cowd: bool, wrong: u64) -> Numbers {
         let n = match rng.below(4) {
             // A directory that just fills a sector, or not.
             0 => rng.pick(&[127, 128, 129]),

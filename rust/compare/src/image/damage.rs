@@ -31,11 +31,10 @@ pub fn suited(plan: Plan, which: u64) -> Plan {
         5 | 12 => (false, true),
         _ => return plan,
     };
-    if plan.cowd == Some(true) {
+    if plan.cowd {
         return plan;
     }
     Plan {
-        cowd: Some(false),
         packed: if packed { Some(true) } else { plan.packed },
         footer: which % 16 == 9,
         redundant,

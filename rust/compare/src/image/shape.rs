@@ -38,7 +38,8 @@ pub struct Shape {
 /// What a case asks of a shape.
 #[derive(Clone, Copy, Default)]
 pub struct Plan {
-    pub cowd: Option<bool>,
+    /// COWD, which the moves alone take, or KDMV.
+    pub cowd: bool,
     pub packed: Option<bool>,
     /// Capacity and grain size.
     pub size: Option<(u64, u64)>,
@@ -85,7 +86,7 @@ impl Shape {
     }
 
     pub fn choose(rng: &mut Rng, plan: Plan) -> Shape {
-        let cowd = plan.cowd.unwrap_or_else(|| rng.one_in(4));
+        let cowd = plan.cowd;
         let packed = !cowd && plan.packed.unwrap_or_else(|| rng.one_in(3));
         let (capacity, grain_size) = plan.size.unwrap_or_else(|| size(rng, cowd, packed));
         let markers = packed && (plan.footer || !rng.one_in(4));

@@ -20,7 +20,6 @@ pub fn torn(rng: &mut Rng) -> Built {
 fn doubled(rng: &mut Rng) -> Built {
     let packed = rng.one_in(3);
     let plan = Plan {
-        cowd: Some(false),
         packed: Some(packed),
         size: Some(size(rng)),
         footer: packed && rng.one_in(2),

@@ -128,7 +128,8 @@ fn cut(rng: &mut Rng, image: &mut Vec<u8>, front: &Front) {
     let left = match rng.below(3) {
         0 => least,
         1 => image.len() - 1,
-        _ => least + rng.index(image.len() - least),
+        // An image that was cut there already has no byte more.
+        _ => least + rng.index((image.len() - least).max(1)),
     };
     image.truncate(left);
 }

@@ -144,7 +144,13 @@ impl Start {
             }
             2 => {
                 let kind = rng.pick(&[4, 5, 256, 257, 258, 0x1_0001, 0x100_0002, u32::MAX.into()]);
-                self.add(rng, [4, 0, kind], 1);
+                // By the low byte a table or a directory would follow, and then a grain.
+                let sectors = match kind % 256 {
+                    1 => 5,
+                    2 => 2,
+                    _ => 1,
+                };
+                self.add(rng, [4, 0, kind], sectors);
             }
             3 => {
                 let past = rng.pick(&[1, size / 2, size - 1]);

@@ -5,11 +5,11 @@ mod walk;
 
 use compare::side::{Plain, Side};
 use plain::Closed;
-use walk::number;
+pub use walk::number;
 
 mistakes! {
     Remade:
-    FooterAsked CowdBeforeItsHeader DirectoryToldClosed RedundantClosed HalfDescriptorClosed HalfByCountOnly DescriptorAcrossOverhead
+    FooterAsked DirectoryToldClosed RedundantClosed HalfDescriptorClosed HalfByCountOnly DescriptorAcrossOverhead
     DescriptorOneMore DescriptorEndWraps DescriptorByF OverheadUnjudged Overhead1 Overhead3Least OverheadPast OverheadFRefused
     RoomBefore41 ByteMore ByteLess
     CutGrainKept SectorMoreThanF LastSectorLeft TablesNotSteppedOver TablesEndIt TableByItsNumber
@@ -91,13 +91,9 @@ impl Mistake {
         }
     }
 
-    /// 1 to 6, by the plain side's header; 41 for COWD.
+    /// 1 to 6 and 43, by the plain side's header.
     fn refused(self, image: &[u8]) -> u64 {
-        let head = Plain.header(image).number;
-        let cowd = image.starts_with(b"COWD");
-        match head {
-            _ if cowd && self == CowdBeforeItsHeader => 41,
-            0 | 7 if cowd => 41,
+        match Plain.header(image).number {
             7 if self != FooterAsked => 0,
             number => number,
         }

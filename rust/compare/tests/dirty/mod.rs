@@ -17,8 +17,6 @@ pub enum Mistake {
     WrittenAndRefused,
     CheckRefuses,
     LookupRefuses,
-    ByteOfCowd,
-    ByteOfKdmvInCowd,
     NumberDropped,
     NumberAsYesOrNo,
     NumberOnRefusal,
@@ -26,7 +24,7 @@ pub enum Mistake {
 
 use Mistake::*;
 
-pub const ALL: [Mistake; 17] = [
+pub const ALL: [Mistake; 15] = [
     NeverAsked,
     OnlyOneIsDirty,
     LowestBitOnly,
@@ -39,8 +37,6 @@ pub const ALL: [Mistake; 17] = [
     WrittenAndRefused,
     CheckRefuses,
     LookupRefuses,
-    ByteOfCowd,
-    ByteOfKdmvInCowd,
     NumberDropped,
     NumberAsYesOrNo,
     NumberOnRefusal,
@@ -68,10 +64,7 @@ impl Mistake {
     }
 
     pub fn header(self, head: Head, image: &[u8]) -> Head {
-        let cowd = image.starts_with(b"COWD");
         let dirty = match (self, head.number) {
-            (ByteOfCowd, 0) if cowd => head.dirty % 256,
-            (ByteOfKdmvInCowd, 0) if cowd => image[72].into(),
             (NumberDropped, _) => 0,
             (NumberAsYesOrNo, _) => head.dirty.min(1),
             (NumberOnRefusal, 3..=7) => image[72].into(),

@@ -261,13 +261,8 @@ pub fn areas(image: &[u8]) -> Vec<Area> {
     let frame = list.chunks(3).take(framed.count as usize);
     let mut areas: Vec<Area> = frame.map(|area| (area[0], area[1], area[2])).collect();
     let head = Plain.header(image);
-    let per_table = if image.starts_with(b"COWD") {
-        4096
-    } else {
-        512
-    };
     let entries = image[directory(image)..].chunks_exact(4);
-    let in_table = per_table * head.grain_size;
+    let in_table = 512 * head.grain_size;
     for (index, entry) in (0..(head.capacity + in_table - 1) / in_table).zip(entries) {
         if entry == [0; 4] {
             continue;

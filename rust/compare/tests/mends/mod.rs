@@ -8,7 +8,7 @@ use plain::Mended;
 mistakes! {
     Remade:
     WrongSide SideIgnored OnlyOneIsRedundant LowestByteOnly
-    CowdFirst OneDirectoryBefore8 RoomBefore8 RoomBefore40
+    OneDirectoryBefore8 RoomBefore8 RoomBefore40
     OneDirectoryIsMended PlacesByNumber AreasNotJudged
     NeverChecked CheckedBefore Only11 PastNotJudged MarkersNotJudged OverlapNotJudged
     GrainsOnTables OnDescriptor OnLastSector
@@ -114,7 +114,7 @@ impl Mistake {
             }
             return judged;
         }
-        if image.starts_with(b"COWD") || image[48..56] == [0; 8] {
+        if image[48..56] == [0; 8] {
             let number = if self == OneDirectoryIsMended { 0 } else { 40 };
             return refused(number, image);
         }
@@ -143,7 +143,6 @@ impl Mistake {
     /// Another number than the header's own.
     fn headed(self, number: u64, image: &[u8]) -> u64 {
         match self {
-            CowdFirst if image.starts_with(b"COWD") => 40,
             OneDirectoryBefore8 if number == 8 && image[48..56] == [0; 8] => 40,
             _ => number,
         }

@@ -94,12 +94,10 @@ pub fn last_grain(image: &[u8]) -> Counts {
 /// All grains but one of each directory entry that names no table.
 pub fn without_table(image: &[u8]) -> Counts {
     let head = Plain.header(image);
-    let cowd = image.starts_with(b"COWD");
-    let per_table = if cowd { 4096 } else { 512 };
     let mut left = (head.capacity + head.grain_size - 1) / head.grain_size;
     let mut lost = Counts::default();
     for entry in image[directory(image)..].chunks_exact(4) {
-        let grains = left.min(per_table);
+        let grains = left.min(512);
         match entry {
             _ if left == 0 => break,
             [0, 0, 0, 0] => lost[2] += grains - 1,

@@ -1,13 +1,13 @@
 //! What a move with a mistake lays down.
 
 use super::{Grain, Mistake, Mistake::*};
-use compare::side::{Plain, Side};
+use compare::cowd::head;
 use plain::{STORED, ZERO};
 
 impl Mistake {
     /// The result: a COWD image, or a KDMV one.
     pub fn laid(self, cowd: bool, image: &[u8], grains: &[Grain]) -> Vec<u8> {
-        let head = Plain.header(image);
+        let head = head(image);
         let size = head.grain_size;
         let per_table = |cowd| if cowd { 4096 } else { 512 };
         let tables_of = |cowd| (grains.len() as u64 - 1) / per_table(cowd) + 1;
@@ -76,7 +76,7 @@ impl Mistake {
     }
 
     fn put_cowd(self, out: &mut [u8], image: &[u8], count: u64, [front, sectors]: [u64; 2]) {
-        let head = Plain.header(image);
+        let head = head(image);
         out[..4].copy_from_slice(b"COWD");
         let length = match self {
             LengthLeftOut => 0,
@@ -95,7 +95,7 @@ impl Mistake {
     }
 
     fn put_kdmv(self, out: &mut [u8], image: &[u8], front: u64) {
-        let head = Plain.header(image);
+        let head = head(image);
         out[..4].copy_from_slice(b"KDMV");
         let numbers = [
             (4, 2),

@@ -1,10 +1,13 @@
-//! Mistakes of the moves, in one that is made anew from the plain side's check and lookups.
+//! Mistakes of the moves, in one that is made anew from the plain side's check and lookups; of COWD, which these refuse, from
+//! its header and entries.
 
 mod laid;
 
+use crate::closes::number;
 use crate::miscounts::directory;
+use compare::cowd::{grain_at, head, is_cowd, kept_check, PER_TABLE};
 use compare::side::{Plain, Side};
-use plain::{Written, ABSENT, STORED, ZERO};
+use plain::{Located, Verdict, Written, ABSENT, STORED, ZERO};
 
 mistakes! {
     Remade:
@@ -15,6 +18,7 @@ mistakes! {
     PastCapacityCopied LastGrainShort BlankAsAbsent
     LengthLeftOut LengthInBytes LengthOfTheFront FlagsLeftOut CountOfTheOther NewlineLeftOut DirtyKept
     LengthInSectors WrittenOn44 WrittenOn27 ByteOnRefusal RestCleared
+    CowdRefused CowdRefusedBack VersionOfCowdTaken OnesOfCowdAbsent OverlapMoved OpenOfByte72
 }
 
 /// More grains than this are not looked up one by one.
@@ -40,8 +44,11 @@ impl crate::Mistake {
 impl Mistake {
     fn write(self, cowd: bool, image: &[u8], out: &mut [u8]) -> Written {
         let cowd = cowd != (self == Turned);
-        let verdict = Plain.check(image);
-        let head = Plain.header(image);
+        let verdict = self.check(cowd, image);
+        let head = head(image);
+        if let Some(other) = self.taken(verdict, image) {
+            return plain_move(cowd, &other, out);
+        }
         if verdict.number == 0 && head.capacity / head.grain_size >= MOST {
             return plain_move(cowd, image, out);
         }
@@ -75,6 +82,39 @@ impl Mistake {
         }
     }
 
+    /// The check that the moves keep: the plain side's, which for COWD only a move tells.
+    fn check(self, cowd: bool, image: &[u8]) -> Verdict {
+        let refused = |number, place| Verdict {
+            number,
+            place,
+            ..Verdict::default()
+        };
+        let verdict = match is_cowd(image) {
+            true => {
+                let kept = kept_check(image);
+                refused(kept.number, kept.place)
+            }
+            false => Plain.check(image),
+        };
+        match (self, verdict.number) {
+            (OverlapMoved, 12) => Verdict::default(),
+            (CowdRefused, 0 | 3..=12) if is_cowd(image) && !cowd => refused(43, 0),
+            (CowdRefusedBack, 0 | 3..=12) if is_cowd(image) && cowd => refused(43, 0),
+            _ => verdict,
+        }
+    }
+
+    /// What a refused COWD image is taken for.
+    fn taken(self, verdict: Verdict, image: &[u8]) -> Option<Vec<u8>> {
+        let mut other = image.to_vec();
+        match (self, verdict.number) {
+            (VersionOfCowdTaken, 3) if is_cowd(image) => other[4..8].copy_from_slice(&[1, 0, 0, 0]),
+            (OnesOfCowdAbsent, 12) if is_cowd(image) => clear_ones(&mut other),
+            _ => return None,
+        }
+        Some(other)
+    }
+
     /// What the mistake writes on a refusal.
     fn spill(self, number: u64, result: &[u8], out: &mut [u8]) {
         let spilled = match (self, number) {
@@ -94,8 +134,9 @@ impl Mistake {
         };
         let open = match self {
             OpenMoved => false,
-            OpenOfLowByte => Plain.header(image).dirty % 256 != 0,
-            _ => Plain.header(image).dirty != 0,
+            OpenOfLowByte => head(image).dirty % 256 != 0,
+            OpenOfByte72 => image[72] != 0,
+            _ => head(image).dirty != 0,
         };
         let kind = is_cowd(image) == cowd && self != KindItselfTaken;
         let packed = !is_cowd(image) && image[77] == 1;
@@ -120,7 +161,7 @@ impl Mistake {
 
     /// Whether it is refused 44.
     fn unmovable(self, cowd: bool, image: &[u8], grains: &[Grain]) -> bool {
-        let grain_size = Plain.header(image).grain_size;
+        let grain_size = head(image).grain_size;
         let least = match self {
             SizesMoved => 1,
             Size4Moved => 4,
@@ -139,11 +180,11 @@ impl Mistake {
 
     /// Each grain of an accepted image, as the mistake takes it.
     fn grains(self, image: &[u8]) -> Vec<Grain> {
-        let head = Plain.header(image);
+        let head = head(image);
         let (capacity, size) = (head.capacity, head.grain_size);
         let grains = (0..capacity).step_by(size as usize);
         let taken = grains.map(|first| {
-            let located = Plain.lookup(image, first);
+            let located = located(image, first, size);
             let below = size.min(capacity - first);
             let sectors = match self {
                 PastCapacityCopied => size,
@@ -171,8 +212,39 @@ impl Mistake {
     }
 }
 
-fn is_cowd(image: &[u8]) -> bool {
-    image.starts_with(b"COWD")
+/// Where a grain's first sector comes from.
+fn located(image: &[u8], first: u64, size: u64) -> Located {
+    if !is_cowd(image) {
+        return Plain.lookup(image, first);
+    }
+    let sector = grain_at(image, first / size);
+    Located {
+        kind: if sector == 0 { ABSENT } else { STORED },
+        sector,
+        ..Located::default()
+    }
+}
+
+/// Entries in use of a COWD image that passed 8 are not 1 any more.
+fn clear_ones(image: &mut [u8]) {
+    let head = head(image);
+    let grains = (head.capacity - 1) / head.grain_size + 1;
+    let clear = |image: &mut [u8], at: usize| {
+        if image[at..at + 4] == [1, 0, 0, 0] {
+            image[at] = 0;
+        }
+    };
+    let entry = |image: &[u8], at: usize| number(image, at as u64, 4) as usize;
+    let directory = entry(image, 20) * 512;
+    for index in 0..=(grains - 1) / PER_TABLE {
+        let at = directory + index as usize * 4;
+        clear(image, at);
+        let table = entry(image, at) * 512;
+        let used = PER_TABLE.min(grains - index * PER_TABLE) as usize;
+        for cell in (0..used).filter(|_| table > 0) {
+            clear(image, table + cell * 4);
+        }
+    }
 }
 
 /// Whether a grain of an accepted KDMV image is zero by its directory entry.

@@ -3,7 +3,7 @@
 use crate::miscounts::directory;
 use crate::Mistake::{self, *};
 use compare::side::{Plain, Side};
-use plain::{Located, Verdict, STORED, ZERO};
+use plain::{Located, Verdict, ZERO};
 use std::borrow::Cow;
 
 impl Mistake {
@@ -25,17 +25,13 @@ impl Mistake {
         }
     }
 
-    /// The source of a sector, by directories where 1 is always a sector, or by a flag that COWD does not have.
+    /// The source of a sector, by directories where 1 is always a sector.
     pub fn locate(&self, located: Located, image: &[u8], sector: u64) -> Located {
         let in_directory = || directory_entry_is_1(image, sector);
         match (self, located.kind) {
             (ZerosInTablesOnly, ZERO) if in_directory() => {
                 Plain.lookup(&changed(image, [2, 0]), sector)
             }
-            (ZerosInCowd, STORED) if in_flagged_cowd(located, image, sector) => Located {
-                kind: ZERO,
-                ..Located::default()
-            },
             _ => located,
         }
     }
@@ -72,10 +68,4 @@ fn directory_entry_is_1(image: &[u8], sector: u64) -> bool {
     }
     let index = sector / (512 * verdict.grain_size);
     image[directory(image)..].chunks(4).nth(index as usize) == Some(&[1, 0, 0, 0])
-}
-
-/// Whether a sector comes from the grain at sector 1 of a COWD image whose flags have the bit.
-fn in_flagged_cowd(located: Located, image: &[u8], sector: u64) -> bool {
-    let flagged = image.starts_with(b"COWD") && image[8] & 4 != 0;
-    flagged && located.sector == 1 + sector % Plain.header(image).grain_size
 }

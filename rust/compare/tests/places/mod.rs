@@ -2,7 +2,7 @@
 //! judge what they do not.
 
 use crate::miscounts::parts;
-use crate::tally;
+use crate::told::{assert_each_is_caught, Wrong};
 use compare::places::{half_described, outside};
 use compare::side::{Plain, Side};
 use compare::tally::Call::{self, *};
@@ -10,7 +10,6 @@ use plain::{
     Closed, Described, Extent, Found, Framed, Head, Located, Marked, Mended, Part, Surveyed,
     Verdict, Written,
 };
-use std::cell::RefCell;
 
 #[derive(Clone, Copy, Debug, PartialEq)]
 enum Mistake {
@@ -35,7 +34,7 @@ enum Mistake {
 use Mistake::*;
 
 /// Each mistake, and the calls that have to be caught in it.
-const ALL: [(Mistake, &[Call]); 16] = [
+const ALL: &[(Mistake, &[Call])] = &[
     (NoPlace, OF_TABLES),
     (FromZero, OF_TABLES),
     (TableAsCopy, OF_TABLES),
@@ -108,21 +107,7 @@ impl Mistake {
     }
 }
 
-/// The plain side with a mistake, and for each answer that it gave for it the call.
-struct Wrong {
-    mistake: Mistake,
-    given: RefCell<Vec<Call>>,
-}
-
-impl Wrong {
-    /// An answer of a call, which is another one than the plain side's or not.
-    fn told<T: PartialEq>(&self, call: Call, plain: T, told: T) -> T {
-        if plain != told {
-            self.given.borrow_mut().push(call);
-        }
-        told
-    }
-
+impl Wrong<Mistake> {
     /// The place of an answer by a call that judges all parts.
     fn place(&self, number: u64, place: u64, image: &[u8]) -> u64 {
         match number {
@@ -150,7 +135,7 @@ macro_rules! placed {
     }};
 }
 
-impl Side for Wrong {
+impl Side for Wrong<Mistake> {
     fn check(&self, image: &[u8]) -> Verdict {
         placed!(self, Check, image, Plain.check(image) => Verdict)
     }
@@ -277,21 +262,7 @@ impl Side for Wrong {
     }
 }
 
-/// Each wrong answer is a difference, and each call has some.
 #[test]
 fn each_mistake_about_places_is_caught_in_each_call() {
-    for (mistake, calls) in ALL {
-        let caught = |count| {
-            let wrong = Wrong {
-                mistake,
-                given: RefCell::default(),
-            };
-            let tally = tally(&wrong, count);
-            let given = wrong.given.into_inner();
-            assert_eq!(tally.differences, given.len() as u64, "{mistake:?}");
-            assert!(!tally.good() && given.iter().all(|call| calls.contains(call)));
-            calls.iter().all(|call| given.contains(call))
-        };
-        assert!(caught(20_000) || caught(100_000), "{mistake:?}");
-    }
+    assert_each_is_caught(ALL);
 }

@@ -6,7 +6,7 @@ use std::ops::Range;
 
 mistakes! {
     Remade:
-    KindBeforeTheCheck PlaceDropped CowdMet PackedMet OpenMet OpenBefore23 SizesBefore23 SizesBefore27 FormBeforeSizes
+    KindBeforeTheCheck PlaceDropped PackedMet OpenMet OpenBefore23 SizesBefore23 SizesBefore27 FormBeforeSizes
     SizesMet GrainSize64Met GrainSize256Met CapacityUnjudged
     LengthNotCompared SectorsCounted LongerMet ShorterMet
     HeaderSkipped VersionSkipped FlagsSkipped DescriptorSkipped DirectorySectorSkipped OverheadSkipped PaddingSkipped
@@ -25,7 +25,7 @@ impl Mistake {
             return Plain.profile(image);
         }
         let verdict = Plain.check(image);
-        if self == KindBeforeTheCheck && head.number == 0 && kind_refused(image) {
+        if self == KindBeforeTheCheck && head.number == 0 && is_packed(image) {
             return refused(23, 0);
         }
         if verdict.number != 0 {
@@ -44,19 +44,13 @@ impl Mistake {
 
     /// 23, 27, 47 and 42, in the mistake's order, of an accepted image.
     fn judge(self, image: &[u8], head: Head) -> Option<Verdict> {
-        let cowd = image.starts_with(b"COWD");
-        let kind = match self {
-            CowdMet if cowd => false,
-            PackedMet if !cowd => false,
-            _ => kind_refused(image),
-        };
-        let place = if kind_refused(image) {
-            None
-        } else {
-            self.difference(image, head)
+        let packed = is_packed(image);
+        let place = match packed {
+            true => None,
+            false => self.difference(image, head),
         };
         let mut refusals = vec![
-            (23, kind),
+            (23, packed && self != PackedMet),
             (27, head.dirty != 0 && self != OpenMet),
             (47, self.sizes(head)),
             (42, place.is_some()),
@@ -174,8 +168,8 @@ fn ends(head: Head) -> [usize; 5] {
     bytes.map(|end| end as usize)
 }
 
-fn kind_refused(image: &[u8]) -> bool {
-    image.starts_with(b"COWD") || image[77] == 1
+fn is_packed(image: &[u8]) -> bool {
+    image[77] == 1
 }
 
 fn refused(number: u64, place: u64) -> Verdict {

@@ -1,5 +1,6 @@
 //! Mistakes about disks cut into several files: each is the plain side on other inputs, or another answer of it.
 
+use crate::gone::moved;
 use crate::{miscounts, wrapped};
 use compare::side::{Plain, Side};
 use plain::{Extent, Located};
@@ -28,11 +29,18 @@ pub enum Mistake {
     ExtentNamedForTheText,
     LineForgotten,
     GrainForgotten,
+    TypeByItsFile,
+    TypeBeforeAccess,
+    TypeServed,
+    TypeIs45,
+    TypeNamesNoExtent,
+    OtherMagicIs43,
+    CowdInFlatRefused,
 }
 
 use Mistake::*;
 
-pub const ALL: [Mistake; 22] = [
+pub const ALL: [Mistake; 29] = [
     OffsetOfVmfsLeftOut,
     OffsetInBytes,
     LengthsOfZeroSkipped,
@@ -55,6 +63,13 @@ pub const ALL: [Mistake; 22] = [
     ExtentNamedForTheText,
     LineForgotten,
     GrainForgotten,
+    TypeByItsFile,
+    TypeBeforeAccess,
+    TypeServed,
+    TypeIs45,
+    TypeNamesNoExtent,
+    OtherMagicIs43,
+    CowdInFlatRefused,
 ];
 
 impl Mistake {
@@ -68,6 +83,7 @@ impl Mistake {
             (ExtentNamedFor20, 20) => naming(extents.len() as u64 - 1),
             (ExtentNamedFor24, 24) => naming(lengths.len() as u64),
             (ExtentNamedForTheText, 30..=36) => naming(1),
+            (TypeNamesNoExtent, 43) => naming(0),
             (SectorBeforeLengths, 24) => match Plain.find(&extents, sector).number {
                 20 => refusal(20, 0),
                 _ => located,
@@ -134,17 +150,22 @@ impl Mistake {
             (CapacityNotCompared, 38, _) => Plain.lookup(file, inside),
             (GrainForgotten, 9 | 10, _) => refusal(located.number, 0),
             (CapacityFirst, 1..=12, _) if other_capacity => refusal(38, 0),
-            (OtherMagicServed, 45, 3 | 4) => changed(Extent {
-                kind: 7 - extent.kind,
-                ..extent
-            }),
-            (MagicAfterTheImage, 45, 3 | 4) => match Plain.check(file) {
+            (OtherMagicServed, 45, 3) | (TypeServed, 43, _) => in_cowd(located, file, inside),
+            (MagicAfterTheImage, 45, 3) => match Plain.check(file) {
                 verdict if verdict.number == 0 => located,
                 verdict => refusal(verdict.number, verdict.place),
             },
             (BytesOfZeroIgnored, 45, 5) => alone(extent, &[], inside),
             (NoAccessServed, 39, _) => changed(extent),
             (AccessAfterTheFile, 39, _) if changed(extent).number == 45 => refusal(45, 0),
+            (TypeByItsFile, 43, _) => match Plain.check(file).number {
+                number @ (1 | 2) => refusal(number, 0),
+                43 => located,
+                _ => refusal(45, 0),
+            },
+            (TypeBeforeAccess, 39, 4) | (OtherMagicIs43, 45, 3) => refusal(43, 0),
+            (TypeIs45, 43, _) => refusal(45, 0),
+            (CowdInFlatRefused, 0, 1 | 2) if file.starts_with(b"COWD") => refusal(43, 0),
             (OneSectorShort, 45, 1 | 2) => alone(extent, &[file, &[0; 512]].concat(), inside),
             _ => located,
         }
@@ -156,6 +177,14 @@ fn refusal(number: u64, place: u64) -> Located {
         number,
         place,
         ..Located::default()
+    }
+}
+
+/// What a COWD file served before request A13, by its move.
+fn in_cowd(located: Located, file: &[u8], inside: u64) -> Located {
+    match moved(file) {
+        Some(image) => Plain.lookup(&image, inside),
+        None => located,
     }
 }
 

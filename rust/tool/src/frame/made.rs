@@ -1,20 +1,9 @@
 //! Images of every kind and with every kind of damage, by numbers as if by chance.
 
-/// Numbers as if by chance, the same in every run.
-struct Chance(u64);
+#[path = "form.rs"]
+mod form;
 
-impl Chance {
-    fn below(&mut self, end: u64) -> u64 {
-        self.0 ^= self.0 << 13;
-        self.0 ^= self.0 >> 7;
-        self.0 ^= self.0 << 17;
-        self.0 % end
-    }
-
-    fn once_in(&mut self, times: u64) -> bool {
-        self.below(times) == 0
-    }
-}
+use form::{Chance, Form};
 
 /// An image under construction: areas one after the other, all noise until they are written.
 struct Made {
@@ -26,54 +15,6 @@ struct Made {
     early: bool,
     /// The sectors of tables that are there twice.
     copies: Vec<u64>,
-}
-
-/// What an image is to be.
-#[derive(Clone, Copy)]
-struct Form {
-    cowd: bool,
-    packed: bool,
-    footer: bool,
-    redundant: bool,
-    /// An entry of 1 means zeros.
-    zeroed: bool,
-    capacity: u64,
-    grain: u64,
-}
-
-impl Form {
-    fn by_chance(chance: &mut Chance) -> Form {
-        let cowd = chance.once_in(4);
-        let packed = !cowd && chance.once_in(2);
-        Form {
-            cowd,
-            packed,
-            footer: packed && chance.once_in(2),
-            redundant: !cowd && chance.once_in(2),
-            zeroed: !cowd && chance.once_in(2),
-            // It ends inside of a grain.
-            capacity: 8997,
-            grain: if cowd { 2 } else { 8 },
-        }
-    }
-
-    fn entries(&self) -> u64 {
-        if self.cowd {
-            4096
-        } else {
-            512
-        }
-    }
-
-    /// How many entries, from 0 on, name no sector.
-    fn none(&self) -> u64 {
-        1 + u64::from(self.zeroed)
-    }
-
-    fn directory_entries(&self) -> u64 {
-        let held = self.entries() * self.grain;
-        (self.capacity + held - 1) / held
-    }
 }
 
 impl Made {
@@ -173,6 +114,11 @@ impl Made {
         (directories[0], directories[1])
     }
 
+    /// Mostly the disk was not open any more.
+    fn dirty(&mut self) -> u64 {
+        self.chance.below(256) * u64::from(self.chance.once_in(4))
+    }
+
     fn kdmv(&mut self, form: &Form) {
         self.area(1);
         if !form.zeroed && self.chance.once_in(2) {
@@ -198,9 +144,7 @@ impl Made {
         for number in [redundant, at_end, 0] {
             head.extend(number.to_le_bytes());
         }
-        // Mostly the disk was not open any more.
-        let dirty = self.chance.below(256) * u64::from(self.chance.once_in(4));
-        head.push(dirty as u8);
+        head.push(self.dirty() as u8);
         head.extend(b"\n \r\n");
         head.extend(u16::from(form.packed).to_le_bytes());
         head.resize(512, 0);
@@ -222,6 +166,8 @@ impl Made {
             head.extend((number as u32).to_le_bytes());
         }
         self.put(0, &head);
+        let dirty = self.dirty();
+        self.word(1648, dirty);
     }
 
     /// Damage of some kind, or none.

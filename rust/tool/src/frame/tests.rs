@@ -1,13 +1,17 @@
-//! Own bytes answer as the whole file does: check, survey, lookups, places and chains of images that are whole, cut and damaged.
+//! Own bytes answer as the whole file does: check, survey, lookups, places, chains and moves of images that are whole, cut and
+//! damaged.
 
 use crate::entries;
 use crate::failure::Failure;
 use crate::files::Layers;
 use crate::frame::made::image;
+use crate::layer::Layer;
 use crate::mended::NOT_MENDABLE;
+use crate::room::{Kind, Room};
 use crate::still_open::STILL_OPEN;
 use crate::survey::counted;
 use anhkhovet::{ChainRefusal, Group, Refusal, Side, Source, CHANGE, SECTOR};
+use std::collections::BTreeMap;
 use std::fs;
 use std::path::{Path, PathBuf};
 
@@ -54,7 +58,10 @@ fn why(failure: Failure) -> Refusal {
 #[derive(Debug, Default)]
 struct Met {
     accepted: u64,
-    refused: [u64; 13],
+    /// By number: of checks, and of moves to KDMV from COWD.
+    refused: BTreeMap<u64, u64>,
+    unmoved: BTreeMap<u64, u64>,
+    moved: u64,
     /// Of 8, by the part that is named.
     outside: [u64; 5],
     /// Sectors that have an answer in an image whose frame is refused.
@@ -83,7 +90,7 @@ impl Met {
         match told {
             Ok(_) => self.accepted += 1,
             Err(refusal) => {
-                self.refused[refusal.number as usize] += 1;
+                *self.refused.entry(refusal.number).or_default() += 1;
                 if let Some(part) = refusal.part() {
                     self.outside[part as usize] += 1;
                 }
@@ -101,6 +108,32 @@ impl Met {
         assert_eq!(told.expect("a file"), wanted, "{path:?}");
         let unfinished = matches!(wanted, Err(refusal) if refusal.number == STILL_OPEN);
         self.unfinished += u64::from(unfinished);
+    }
+
+    /// To either kind: the answer, without a byte of any grain; from COWD also the length, and what stands before the grains.
+    fn moved(&mut self, path: &Path, whole: &[u8]) {
+        let mut layers = Layers::to_move(Layer::open(path).expect("a file")).expect("layers");
+        for to_move in [anhkhovet::to_kdmv, anhkhovet::to_cowd] {
+            let told = layers.ask(0, |image| to_move(image, &mut []));
+            assert_eq!(told.expect("a file"), to_move(whole, &mut []), "{path:?}");
+        }
+        if !whole.starts_with(b"COWD") {
+            return;
+        }
+        let why = anhkhovet::to_kdmv(whole, &mut []).expect_err("no room");
+        *self.unmoved.entry(why.number).or_default() += 1;
+        if why.number == 21 {
+            let images = [layers.bytes(0)];
+            let room = Room::of(Kind::Kdmv, &images).expect("a header");
+            let length = room.counted().expect("counted");
+            let mut outs = [(); 2].map(|()| vec![7; length as usize]);
+            assert_eq!(anhkhovet::to_kdmv(whole, &mut outs[0]), Ok(length));
+            assert_eq!(anhkhovet::to_kdmv(images[0], &mut outs[1]), Ok(length));
+            assert!(length <= room.most(), "{path:?}");
+            let front = room.length(0) as usize;
+            assert!(outs[0][..front] == outs[1][..front], "{path:?}");
+            self.moved += u64::from(length as usize > front);
+        }
     }
 
     /// From either side: the answer, the list, and the own bytes that stand for the file's.
@@ -175,6 +208,7 @@ fn own_bytes_answer_as_the_whole_file() {
         let path = folder.at(seed);
         let whole = fs::read(&path).expect("an image");
         met.judged(&path, &whole);
+        met.moved(&path, &whole);
         met.mended(&path, &whole);
         met.located(&path, &whole);
     }
@@ -183,11 +217,20 @@ fn own_bytes_answer_as_the_whole_file() {
         met.chained(&paths);
     }
     println!("{met:?}");
-    let all = [1, 2, 3, 5, 6, 7, 8, 9, 10, 11, 12];
-    assert!(all.iter().all(|&number| met.refused[number] > 0), "{met:?}");
+    let all = [1, 2, 3, 5, 6, 7, 8, 9, 10, 11, 12, 43];
+    assert!(
+        all.iter().all(|number| met.refused.contains_key(number)),
+        "{met:?}"
+    );
+    let all = [1, 3, 6, 8, 9, 12, 21, 27, 44];
+    assert!(
+        all.iter().all(|number| met.unmoved.contains_key(number)),
+        "{met:?}"
+    );
     assert!(met.outside.iter().all(|&part| part > 0), "{met:?}");
     assert!(
         met.accepted > IMAGES / 4
+            && met.moved > 50
             && met.broken > 1000
             && met.packed > 1000
             && met.at_one > 100

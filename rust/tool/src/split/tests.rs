@@ -149,7 +149,7 @@ fn extents_answer_as_all_files_end_to_end() {
         met.compare(&folder.0.join(seed.to_string()), disk);
     }
     println!("{met:?}");
-    let all = [1, 2, 3, 5, 6, 7, 8, 9, 10, 11, 12, 38, 39, 45];
+    let all = [1, 2, 3, 5, 6, 7, 8, 9, 10, 11, 12, 38, 39, 43, 45];
     assert!(
         all.iter().all(|number| met.refused.contains_key(number)),
         "{met:?}"

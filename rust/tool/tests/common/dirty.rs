@@ -2,7 +2,7 @@
 #![allow(dead_code)]
 
 use crate::common::Folder;
-use crate::disks::descriptor;
+use crate::disks::{descriptor, lab};
 use std::fs;
 
 /// The samples that they are made of, and the one with a footer among them.
@@ -45,6 +45,8 @@ pub fn add(folder: &Folder) {
     changed(folder, "tool-middle.vmdk", "open-middle", &[(KDMV, 2)]);
     // The low byte of the number is 0.
     changed(folder, "cowd-s001.vmdk", "open-cowd", &[(COWD + 1, 1)]);
+    lab(folder);
+    changed(folder, "lab.vmdk", "open-lab", &[(KDMV, 1)]);
     let footer = footer(folder);
     changed(folder, STREAM, "open-stream", &[(KDMV, 1), (footer, 1)]);
     changed(folder, STREAM, "half-stream", &[(KDMV, 1)]);
@@ -55,7 +57,7 @@ pub fn add(folder: &Folder) {
         RW 8 ZERO\n\
         RW 8 FLAT \"open-base\" 0\n\
         RW 2048 SPARSE \"tool-base.vmdk\"\n\
-        RW 100 VMFSSPARSE \"open-cowd\"\n";
+        RW 100 SPARSE \"open-lab\"\n";
     descriptor(folder, "open-disk", extents);
     let torn = format!("{extents}RW 2048 SPARSE \"open-cut\"\nNOACCESS 2048 SPARSE \"open-255\"\n");
     descriptor(folder, "torn-disk", &torn);

@@ -5,17 +5,17 @@ use crate::common::Folder;
 use std::fs;
 use std::os::unix::fs::symlink;
 
-/// The samples that they are made of.
+/// The samples that they are made of. The first of them is COWD, and is moved for them.
 pub const SAMPLES: [&str; 3] = ["cowd-s001.vmdk", "tool-base.vmdk", "tool-packed.vmdk"];
 
-/// The sectors of the disk `all`, and those of its extents.
+/// The sectors of the disk `all`, which has all types that are read, and those of its extents.
 pub const CAPACITY: u64 = 4212;
 pub const EXTENTS: [u64; 7] = [2048, 8, 4, 100, 2, 2, 2048];
 
 const ALL: &str = "RW 2048 SPARSE \"tool-base.vmdk\"\n\
     RW 8 ZERO\n\
     RDONLY 4 FLAT \"plain\" 1\n\
-    RW 100 VMFSSPARSE \"cowd-s001.vmdk\"\n\
+    RW 100 SPARSE \"lab.vmdk\"\n\
     RW 2 VMFS \"plain\" 5\n\
     RW 2 VMFS \"link-to-plain\"\n\
     RW 2048 SPARSE \"tool-packed.vmdk\"\n";
@@ -39,6 +39,22 @@ const HURT: &str = "RW 2048 SPARSE \"tool-base.vmdk\"\n\
     RW 8 FLAT \"link-to-nothing\" 0\n\
     RW 1 ZERO\n";
 
+/// One that was never moved: its COWD files are there, missing, and none.
+const NEVER_MOVED: &str = "RW 8 ZERO\n\
+    RW 100 VMFSSPARSE \"cowd-s001.vmdk\"\n\
+    RW 100 VMFSSPARSE \"nobody-opens-it\"\n\
+    RW 100 VMFSSPARSE \"tool-base.vmdk\"\n\
+    NOACCESS 100 VMFSSPARSE \"nobody-opens-it\"\n\
+    RW 72 FLAT \"cowd-s001.vmdk\" 0\n";
+
+/// Adds the COWD sample, moved, to a folder that has it: 13 grains of 8 sectors, the last of them half past the capacity.
+pub fn lab(folder: &Folder) {
+    let old = fs::read(folder.at("cowd-s001.vmdk")).expect("a sample");
+    let mut moved = vec![0; 1 << 16];
+    let length = anhkhovet::to_kdmv(&old, &mut moved).expect("moved");
+    fs::write(folder.at("lab.vmdk"), &moved[..length as usize]).expect("written");
+}
+
 /// Writes a descriptor with these extents.
 pub fn descriptor(folder: &Folder, name: &str, extents: &str) {
     let text = format!(
@@ -47,7 +63,7 @@ pub fn descriptor(folder: &Folder, name: &str, extents: &str) {
     fs::write(folder.at(name), text).expect("written");
 }
 
-/// Adds the disks `all` and `hurt` to a folder that has the samples.
+/// Adds the disks `all`, `hurt` and `never-moved` to a folder that has the samples.
 pub fn add(folder: &Folder) {
     let plain: Vec<u8> = (b'a'..=b'g').flat_map(|letter| [letter; 512]).collect();
     fs::write(folder.at("plain"), plain).expect("written");
@@ -62,8 +78,10 @@ pub fn add(folder: &Folder) {
     ] {
         symlink(to, folder.at(name)).expect("a link");
     }
+    lab(folder);
     descriptor(folder, "all", ALL);
     descriptor(folder, "hurt", HURT);
+    descriptor(folder, "never-moved", NEVER_MOVED);
     descriptor(folder, "no-access", "NOACCESS 8 ZERO\nRW 8 ZERO\n");
     descriptor(folder, "alone", "RW 8 FLAT \"plain\" 0\n");
 }

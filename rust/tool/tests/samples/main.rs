@@ -8,8 +8,8 @@ mod raw;
 mod versions;
 
 use anhkhovet::{
-    check, collapse, descriptor, find, frame, header, lookup, normal, Group, Located, Refusal,
-    Source, SECTOR,
+    check, collapse, descriptor, find, frame, header, lookup, normal, to_kdmv, Group, Located,
+    Refusal, Source, SECTOR,
 };
 use disk::{bytes, path, text, Extent, Reader};
 use map::{runs, Run};
@@ -124,11 +124,13 @@ const DISKS: [(&str, &[&str], [u64; 4]); 15] = [
 ];
 
 /// The same of disks that a descriptor tells of.
-const DESCRIBED: [(&str, [u64; 4]); 3] = [
+const DESCRIBED: [(&str, [u64; 4]); 2] = [
     ("two-gb-sparse", [2048, 0, 0, 0]),
     ("two-gb-sparse-data", [4_194_304, 0, 200, 0]),
-    ("cowd", [72, 0, 28, 0]),
 ];
+
+/// The one that is COWD.
+const OLD: &str = "cowd";
 
 fn files(name: &str, under: &[&str]) -> Vec<String> {
     let layers = under.iter().chain([&name]);
@@ -148,6 +150,25 @@ fn disks_of_extents() {
     for (name, counts) in DESCRIBED {
         assert_eq!(walk_with_map(name, &described(name)), counts, "{name}");
     }
+}
+
+/// The disk that is COWD is moved, and its sectors keep their kind and bytes: the map has other places.
+#[test]
+fn an_old_disk() {
+    let old = bytes("cowd-s001.vmdk");
+    assert_eq!(check(&old), refused(43));
+    let mut moved = vec![0; 1 << 16];
+    let length = to_kdmv(&old, &mut moved).unwrap();
+    moved.truncate(length as usize);
+    let runs = runs(&text(&format!("{OLD}.vmdk.map")));
+    let mut counts = [0; 4];
+    walk(OLD, &[Extent::of(&[moved])], |byte, _, located| {
+        let run = runs.iter().rev().find(|run| run.start <= byte);
+        let stored = matches!(located.source, Source::Stored { .. });
+        assert_eq!(run.map(|run| run.present), Some(stored), "byte {byte}");
+        counts[kind(located.source)] += 1;
+    });
+    assert_eq!(counts, [72, 0, 28, 0]);
 }
 
 /// The collapse of a chain reads as qemu-img read the chain, and has its sources.
@@ -203,7 +224,7 @@ fn areas(image: &[u8]) -> Vec<(Group, u64, u64)> {
         .collect()
 }
 
-/// qemu-img lays all its images out alike; VMDKstream has a footer, and COWD another layout.
+/// qemu-img lays all its images out alike; VMDKstream has a footer.
 #[test]
 fn frames() {
     let qemu = [
@@ -226,12 +247,6 @@ fn frames() {
         let expected = if name == "vmdkstream" { stream } else { qemu };
         assert_eq!(areas(&bytes(&format!("{name}.vmdk"))), expected, "{name}");
     }
-    let cowd = [
-        (Group::Header, 0, 4),
-        (Group::Directory, 4, 1),
-        (Group::PrimaryTable, 5, 32),
-    ];
-    assert_eq!(areas(&bytes("cowd-s001.vmdk")), cowd);
 }
 
 /// Of an image without packed grains the frame alone, zeros elsewhere, has the same check, lookups and frame.
@@ -267,6 +282,7 @@ fn all_samples() {
     let images = DISKS.iter().map(|disk| disk.0);
     let mut tested: Vec<String> = images
         .chain(DESCRIBED.iter().map(|disk| disk.0))
+        .chain([OLD])
         .map(str::to_string)
         .collect();
     tested.sort();

@@ -5,6 +5,7 @@
 
 mod answer;
 mod choose;
+mod kinds;
 pub mod layers;
 mod record;
 
