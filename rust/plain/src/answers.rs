@@ -49,7 +49,7 @@ pub struct Marked {
     pub marked: u64,
 }
 
-/// What a header says, once refusals 1 to 7 are out of the way.
+/// What a KDMV header says that was not refused.
 #[derive(Clone, Copy, Debug, Default, PartialEq, Eq)]
 pub struct Head {
     pub number: u64,

@@ -1,7 +1,7 @@
-//! The full check: refusals 1 to 12, each over the whole image before the next.
+//! The full check: the header's refusals, then 8 to 12, each over the whole image before the next.
 
 use crate::answers::{refusal, Refusal, Verdict};
-use crate::frame::{self, framed};
+use crate::frame::{self, judge_areas};
 use crate::image::{Entry, Image};
 
 /// The sectors of an area: the first, and how many.
@@ -28,26 +28,33 @@ pub fn verdict(judged: Result<Image, Refusal>) -> Verdict {
     }
 }
 
-/// The image, if it meets every rule.
+/// The KDMV image, if it meets every rule.
 pub fn accept(bytes: &[u8]) -> Result<Image<'_>, Refusal> {
-    let (image, areas) = laid_out(bytes)?;
-    judge_apart(areas)?;
+    accepted(Image::judged(bytes)?)
+}
+
+/// The image of either kind, if it meets every rule of its own: the check that the moves keep.
+pub fn accept_either(bytes: &[u8]) -> Result<Image<'_>, Refusal> {
+    accepted(Image::judged_either(bytes)?)
+}
+
+fn accepted(image: Image) -> Result<Image, Refusal> {
+    judge_apart(laid_out(&image)?)?;
     Ok(image)
 }
 
-/// The image and its areas in request A6's order, if it meets every rule but 12.
-pub fn laid_out(bytes: &[u8]) -> Result<(Image<'_>, Vec<Sectors>), Refusal> {
-    let image = framed(bytes)?;
-    let grains = grains(&image);
+/// The image's areas in request A6's order, if it passes 8 to 11.
+pub fn laid_out(image: &Image) -> Result<Vec<Sectors>, Refusal> {
+    judge_areas(image)?;
+    let grains = grains(image);
     for (grain, at) in &grains {
         image.judge_past(*grain, *at)?;
     }
     for (grain, at) in &grains {
         image.judge_marker(*grain, *at)?;
     }
-    judge_copies(&image)?;
-    let areas = areas(&image, &grains);
-    Ok((image, areas))
+    judge_copies(image)?;
+    Ok(areas(image, &grains))
 }
 
 /// Every grain that the primary tables name, with its sector, in virtual order. Needs 8 passed.

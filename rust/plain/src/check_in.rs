@@ -1,9 +1,10 @@
-//! Request A6: the check in a lent list, with the number of sectors marked. Refusals 1 to 11, then 21, then 12.
+//! Request A6: the check in a lent list, with the number of sectors marked. Refusals: the header's, 8 to 11, then 21, then 12.
 //!
 //! Areas are compared as the check without a list compares them, so that the list is written and never read.
 
 use crate::answers::{refusal, Marked, Refusal};
 use crate::check::{judge_apart, laid_out, Sectors};
+use crate::image::Image;
 use crate::numbers::up;
 
 /// File sectors for each word of the list.
@@ -11,7 +12,7 @@ const WORD: u64 = 64;
 
 /// The public call: on acceptance and 12 the needed words become 0; all others, or on other refusals all, keep what they held.
 pub fn check_in(bytes: &[u8], list: &mut [u64]) -> Marked {
-    let (image, areas) = match laid_out(bytes) {
+    let (image, areas) = match judged(bytes) {
         Ok(found) => found,
         Err(refusal) => return refused(refusal, &[]),
     };
@@ -29,6 +30,13 @@ pub fn check_in(bytes: &[u8], list: &mut [u64]) -> Marked {
         },
         Err(refusal) => refused(refusal, before_meeting(&areas)),
     }
+}
+
+/// The image and its areas, if it meets every rule but 12.
+fn judged(bytes: &[u8]) -> Result<(Image<'_>, Vec<Sectors>), Refusal> {
+    let image = Image::judged(bytes)?;
+    let areas = laid_out(&image)?;
+    Ok((image, areas))
 }
 
 /// A refusal after these areas were marked.

@@ -1,4 +1,4 @@
-//! Request A12: the tail that closes a stream that broke off. Refusals: 1 to 6, then 41, then 21.
+//! Request A12: the tail that closes a stream that broke off. Refusals: sector 0's, then 41, then 21.
 
 use crate::answers::{refusal, Closed, Refusal};
 use crate::frame::descriptor_within;
@@ -59,7 +59,7 @@ fn closed(bytes: &[u8], room: usize) -> Result<(Kept, Vec<u8>), Refusal> {
 /// The overhead sector of a start that can be closed; nothing where it is 41.
 fn overhead(start: &Image) -> Option<u64> {
     let header = &start.header;
-    // A directory at the end is KDMV's alone, and has passed 5: so flag 0x20000 is set.
+    // A directory at the end has passed 5: so flag 0x20000 is set.
     if !header.footer || header.redundant != 0 || start.sectors() > MOST_SECTORS {
         return None;
     }

@@ -1,7 +1,7 @@
-//! The frame: the areas of an image but its grains, in request A6's order. Refusals 1 to 8, then 21.
+//! The frame: the areas of an image but its grains, in request A6's order. Refusals: the header's, 8, then 21.
 
 use crate::answers::{outside, refusal, Framed, Outside, Refusal};
-use crate::header::{judge, Header};
+use crate::header::Header;
 use crate::image::{Entry, Image};
 use crate::numbers::past;
 
@@ -55,18 +55,15 @@ fn words(bytes: &[u8], room: usize) -> Result<Vec<u64>, Refusal> {
     Ok(words)
 }
 
-/// The image, if its header and its areas but the grains pass 1 to 8.
+/// The KDMV image, if its header and its areas but the grains pass their rules.
 pub fn framed(bytes: &[u8]) -> Result<Image<'_>, Refusal> {
-    let image = Image {
-        bytes,
-        header: judge(bytes)?,
-    };
+    let image = Image::judged(bytes)?;
     judge_areas(&image)?;
     Ok(image)
 }
 
 /// Refusal 8. Areas are judged by their places from 1 to 5, so that the place is the lowest that applies.
-fn judge_areas(image: &Image) -> Result<(), Refusal> {
+pub fn judge_areas(image: &Image) -> Result<(), Refusal> {
     let header = &image.header;
     judge_descriptor(image)?;
     image.judge_directory()?;

@@ -1,4 +1,4 @@
-//! The two headers: refusals 1 to 7.
+//! The two headers: refusals 1, 2, 43 and 3 to 7, and which kinds of image a call takes (request A13).
 
 use crate::answers::{refusal, Head, Refusal};
 use crate::numbers::{number, sector, up, whole_sectors, SECTOR};
@@ -50,7 +50,7 @@ pub struct Header {
     pub stored_entries: u64,
     /// Whether sector 0 says that the directory is at the end.
     pub footer: bool,
-    /// Byte 72 of KDMV, the u32 at 1648 of COWD. No header is refused for it.
+    /// Byte 72 of KDMV, the u32 at 1648 of COWD, which a move alone asks for. No header is refused for it.
     pub dirty: u64,
 }
 
@@ -96,7 +96,7 @@ impl Header {
     }
 }
 
-/// The header of an image, or the first of refusals 1 to 7.
+/// The header of a KDMV image, or the first of refusals 1, 2, 43 and 3 to 7: what every call takes but the moves.
 pub fn judge(image: &[u8]) -> Result<Header, Refusal> {
     let mut header = judge_start(image)?;
     if header.footer {
@@ -105,22 +105,38 @@ pub fn judge(image: &[u8]) -> Result<Header, Refusal> {
     Ok(header)
 }
 
-/// What the first sectors alone say, or the first of refusals 1 to 6: a footer's directory sector is not yet known.
+/// What sector 0 of a KDMV image says, or the first of refusals 1, 2, 43 and 3 to 6: a footer's directory is not yet known.
 pub fn judge_start(image: &[u8]) -> Result<Header, Refusal> {
-    if image.len() < 4 {
-        return Err(refusal(1));
-    }
-    match &image[..4] {
-        [0x4b, 0x44, 0x4d, 0x56] => kdmv(image),
-        [0x43, 0x4f, 0x57, 0x44] => cowd(image),
-        _ => Err(refusal(2)),
+    match kind(image)? {
+        Kind::Kdmv => kdmv(image),
+        Kind::Cowd => Err(refusal(43)),
     }
 }
 
-fn kdmv(image: &[u8]) -> Result<Header, Refusal> {
-    if image.len() < 512 {
+/// The header of an image of either kind, or the first of refusals 1 to 7: what the two moves alone take.
+pub fn judge_either(image: &[u8]) -> Result<Header, Refusal> {
+    match kind(image)? {
+        Kind::Kdmv => judge(image),
+        Kind::Cowd => cowd(image),
+    }
+}
+
+/// The kind that the magic says, of an image that has all of its header: refusals 1 and 2.
+fn kind(image: &[u8]) -> Result<Kind, Refusal> {
+    let kind = match image.get(..4) {
+        None => return Err(refusal(1)),
+        Some([0x4b, 0x44, 0x4d, 0x56]) => Kind::Kdmv,
+        Some([0x43, 0x4f, 0x57, 0x44]) => Kind::Cowd,
+        Some(_) => return Err(refusal(2)),
+    };
+    if whole_sectors(image) < kind.header_sectors() {
         return Err(refusal(1));
     }
+    Ok(kind)
+}
+
+/// Sector 0 of a KDMV image that has one: refusals 3 to 6.
+fn kdmv(image: &[u8]) -> Result<Header, Refusal> {
     let version = number(image, 4, 4);
     let flags = number(image, 8, 4);
     let capacity = number(image, 12, 8);
@@ -189,10 +205,8 @@ fn footer_directory(image: &[u8]) -> Option<u64> {
     }
 }
 
+/// The header of a COWD image that has all of it: refusals 3 and 6.
 fn cowd(image: &[u8]) -> Result<Header, Refusal> {
-    if image.len() < 2048 {
-        return Err(refusal(1));
-    }
     let capacity = number(image, 12, 4);
     let grain_size = number(image, 16, 4);
     let stored_entries = number(image, 24, 4);
@@ -222,7 +236,7 @@ fn cowd(image: &[u8]) -> Result<Header, Refusal> {
     })
 }
 
-/// The public call: what the header says, or a refusal of 1 to 7.
+/// The public call: what the header says, or its refusal.
 pub fn header(image: &[u8]) -> Head {
     match judge(image) {
         Ok(header) => Head {

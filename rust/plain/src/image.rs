@@ -1,7 +1,7 @@
 //! Entries and grains of an image whose header is known.
 
 use crate::answers::{outside, Outside, Refusal};
-use crate::header::Header;
+use crate::header::{judge, judge_either, Header};
 use crate::numbers::{number, past, sector, up, whole_sectors, SECTOR};
 use std::ops::Range;
 
@@ -28,6 +28,18 @@ pub struct Image<'a> {
 }
 
 impl<'a> Image<'a> {
+    /// A KDMV image, whose header passed its rules.
+    pub fn judged(bytes: &'a [u8]) -> Result<Image<'a>, Refusal> {
+        let header = judge(bytes)?;
+        Ok(Image { bytes, header })
+    }
+
+    /// An image of either kind, whose header passed its rules.
+    pub fn judged_either(bytes: &'a [u8]) -> Result<Image<'a>, Refusal> {
+        let header = judge_either(bytes)?;
+        Ok(Image { bytes, header })
+    }
+
     /// F.
     pub fn sectors(&self) -> u64 {
         whole_sectors(self.bytes)

@@ -1,7 +1,6 @@
 //! Serving sectors: the lookup and the grain reader.
 
 use crate::answers::{refusal, Located, Outside, Part, Refusal, ABSENT, PACKED, STORED, ZERO};
-use crate::header::judge;
 use crate::image::{Entry, Image};
 use crate::numbers::SECTOR;
 
@@ -14,12 +13,9 @@ pub enum Source {
     Packed { marker: u64, size: u64, offset: u64 },
 }
 
-/// The source of virtual sector `sector`: 1 to 7, 20, 8, 9, 10. Of 8 only places 2 and 4.
+/// The source of virtual sector `sector`: the header's refusals, 20, 8, 9, 10. Of 8 only places 2 and 4.
 pub fn source(bytes: &[u8], sector: u64) -> Result<Source, Refusal> {
-    let image = Image {
-        bytes,
-        header: judge(bytes)?,
-    };
+    let image = Image::judged(bytes)?;
     let header = &image.header;
     if sector >= header.capacity {
         return Err(refusal(20));

@@ -1,4 +1,4 @@
-//! Request A7: one directory's tables mended from the other's. Refusals 1 to 8, then 40, then 21.
+//! Request A7: one directory's tables mended from the other's. Refusals: the header's, 8, then 40, then 21.
 
 use crate::answers::{refusal, Mended, Refusal};
 use crate::check::{check, judge_apart, Sectors};

@@ -1,11 +1,12 @@
-//! Request A9: COWD to KDMV and back. Refusals: the image's check, 23, 27, 44, then 21.
+//! Request A9: COWD to KDMV and back, from the check of either kind (request A13). Refusals: its own, 23, 27, 44, then 21.
 
 use crate::answers::{refusal, Refusal, Written};
-use crate::check::accept;
+use crate::check::accept_either;
 use crate::header::Kind;
+use crate::image::Image;
 use crate::layout::laid_down;
 use crate::survey::counts;
-use crate::write::{judge_clean, judge_kind, over};
+use crate::write::{judge_clean, judge_unpacked, over};
 
 /// The least grain size of KDMV.
 const LEAST_GRAIN: u64 = 8;
@@ -22,10 +23,8 @@ pub fn to_cowd(image: &[u8], out: &mut [u8]) -> Written {
 }
 
 fn kdmv(bytes: &[u8], room: usize) -> Result<Vec<u8>, Refusal> {
-    let image = accept(bytes)?;
-    if image.header.kind != Kind::Cowd {
-        return Err(refusal(23));
-    }
+    let image = accept_either(bytes)?;
+    judge_kind(&image, Kind::Cowd)?;
     judge_clean(&image)?;
     if image.header.grain_size < LEAST_GRAIN {
         return Err(refusal(44));
@@ -34,12 +33,21 @@ fn kdmv(bytes: &[u8], room: usize) -> Result<Vec<u8>, Refusal> {
 }
 
 fn cowd(bytes: &[u8], room: usize) -> Result<Vec<u8>, Refusal> {
-    let image = accept(bytes)?;
-    judge_kind(&image)?;
+    let image = accept_either(bytes)?;
+    judge_kind(&image, Kind::Kdmv)?;
+    judge_unpacked(&image)?;
     judge_clean(&image)?;
     let [_, zero, _, _] = counts(&image);
     if zero != 0 {
         return Err(refusal(44));
     }
     laid_down(&[image], Kind::Cowd, room)
+}
+
+/// Refusal 23 of what is not of the kind that a move starts from.
+fn judge_kind(image: &Image, kind: Kind) -> Result<(), Refusal> {
+    if image.header.kind != kind {
+        return Err(refusal(23));
+    }
+    Ok(())
 }

@@ -5,7 +5,7 @@ use crate::check::{accept, verdict};
 use crate::header::Kind;
 use crate::image::Image;
 use crate::layout::laid_down;
-use crate::write::{judge_clean, judge_kind};
+use crate::write::{judge_clean, judge_unpacked};
 
 /// The one grain size, of which capacity is a multiple.
 const GRAIN_SIZE: u64 = 128;
@@ -18,7 +18,7 @@ pub fn profile(bytes: &[u8]) -> Verdict {
 /// The image, if it is its own normal form and has the profile's sizes.
 fn published(bytes: &[u8]) -> Result<Image<'_>, Refusal> {
     let image = accept(bytes)?;
-    judge_kind(&image)?;
+    judge_unpacked(&image)?;
     judge_clean(&image)?;
     if image.header.grain_size != GRAIN_SIZE || image.header.capacity % GRAIN_SIZE != 0 {
         return Err(refusal(47));

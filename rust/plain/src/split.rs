@@ -1,4 +1,5 @@
-//! Request A4: a disk cut into several files. Refusals: the descriptor's, 24, 20, then 39, 45, the image's, 38 of one extent.
+//! Request A4: a disk cut into several files. Refusals: the descriptor's, 24, 20, then 39, 43, 45, the image's, 38 of one
+//! extent.
 
 use crate::answers::{refusal, Extent, Located, Refusal};
 use crate::chain::parts;
@@ -43,8 +44,9 @@ fn serve(extent: &Extent, file: &[u8], inside: u64) -> Result<Source, Refusal> {
         return Err(refusal(39));
     }
     match extent.kind {
-        SPARSE => image(file, b"COWD", extent.sectors, inside),
-        VMFSSPARSE => image(file, b"KDMV", extent.sectors, inside),
+        // The line alone decides, whatever its file holds.
+        VMFSSPARSE => Err(refusal(43)),
+        SPARSE => image(file, extent.sectors, inside),
         ZERO if file.is_empty() => Ok(Source::Zero),
         ZERO => Err(refusal(45)),
         _ if past(extent.offset, extent.sectors, whole_sectors(file)) => Err(refusal(45)),
@@ -54,9 +56,9 @@ fn serve(extent: &Extent, file: &[u8], inside: u64) -> Result<Source, Refusal> {
     }
 }
 
-/// The source in an image of the kind that `other` is not the magic of: 45, the full check, 38, then the lookup.
-fn image(file: &[u8], other: &[u8; 4], sectors: u64, inside: u64) -> Result<Source, Refusal> {
-    if file.starts_with(other) {
+/// The source in a KDMV image: 45 for COWD's magic, the full check, 38, then the lookup.
+fn image(file: &[u8], sectors: u64, inside: u64) -> Result<Source, Refusal> {
+    if file.starts_with(b"COWD") {
         return Err(refusal(45));
     }
     if accept(file)?.header.capacity != sectors {

@@ -9,7 +9,7 @@ use crate::layout::laid_down;
 /// Normal form: the bytes of the result, for an output of `room` bytes.
 pub fn normal(image: &[u8], room: usize) -> Result<Vec<u8>, Refusal> {
     let image = accept(image)?;
-    judge_kind(&image)?;
+    judge_unpacked(&image)?;
     judge_clean(&image)?;
     laid_down(&[image], Kind::Kdmv, room)
 }
@@ -18,8 +18,8 @@ pub fn normal(image: &[u8], room: usize) -> Result<Vec<u8>, Refusal> {
 pub fn collapse(lower: &[u8], upper: &[u8], room: usize) -> Result<Vec<u8>, Refusal> {
     let lower = accept(lower)?;
     let upper = accept(upper)?;
-    judge_kind(&lower)?;
-    judge_kind(&upper)?;
+    judge_unpacked(&lower)?;
+    judge_unpacked(&upper)?;
     if lower.header.capacity != upper.header.capacity
         || lower.header.grain_size != upper.header.grain_size
     {
@@ -48,9 +48,9 @@ pub fn over(result: Result<Vec<u8>, Refusal>, out: &mut [u8]) -> Written {
     }
 }
 
-/// Refusal 23 of what starts from KDMV and does not unpack.
-pub fn judge_kind(image: &Image) -> Result<(), Refusal> {
-    if image.header.kind == Kind::Cowd || image.header.packed() {
+/// Refusal 23 of what does not unpack.
+pub fn judge_unpacked(image: &Image) -> Result<(), Refusal> {
+    if image.header.packed() {
         return Err(refusal(23));
     }
     Ok(())

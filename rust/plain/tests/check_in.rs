@@ -8,7 +8,7 @@ mod marks;
 #[path = "common/parts.rs"]
 mod parts;
 
-use common::{cowd, kdmv, put32, put64, set};
+use common::{kdmv, put32, put64, set};
 use faulty::{faulty, mixed, stream};
 use marks::{accepted, marked, refused, HELD};
 use parts::{pack, put_entries, put_footer};
@@ -168,29 +168,6 @@ fn every_group() {
 }
 
 #[test]
-fn cowd_images() {
-    // A header of 4 sectors, and a table of 32.
-    let mut image = cowd(4096, 1, 1, 40);
-    assert_eq!(accepted(&image), 4 + 1 + 32);
-    put_entries(&mut image, 5, &[39, 0, 37, 38]);
-    assert_eq!(accepted(&image), 40);
-    // A dirty number changes nothing, nor do KDMV's places of a descriptor and a redundant directory.
-    put32(&mut image, 1648, 5);
-    image[28..56].fill(5);
-    assert_eq!(accepted(&image), 40);
-    // The stored count gives the directory's area, whatever n is.
-    let mut image = cowd(4097, 1, 129, 100);
-    put_entries(&mut image, 4, &[60, 0, 6]);
-    assert_eq!(accepted(&image), 4 + 2 + 32);
-    put_entries(&mut image, 4, &[60, 20, 6]);
-    put_entries(&mut image, 20, &[99, 99]);
-    assert_eq!(accepted(&image), 4 + 2 + 32 + 32 + 1);
-    let mut image = cowd(17, 8, 1, 53);
-    put_entries(&mut image, 5, &[45, 0, 37]);
-    assert_eq!(accepted(&image), 4 + 1 + 32 + 16);
-}
-
-#[test]
 fn a_table_and_a_grain_at_sector_1() {
     // Version 1, where an entry of 1 is a sector.
     let mut image = kdmv(33, 8, 30);
@@ -216,11 +193,11 @@ fn the_largest_directories() {
         assert_eq!((found.number, found.marked), (0, 257));
         assert_eq!(list, [0, 0, 0, 0, 0, held]);
     }
-    let mut image = cowd(1 << 31, 1, 1 << 19, 4 + 4096);
-    put_entries(&mut image, 4, &[0]);
+    let mut image = kdmv(1 << 31, 8, 1 + 4096);
+    put_entries(&mut image, 1, &[0]);
     let mut list = [u64::MAX; 65];
     let found = check_in(&image, &mut list);
-    assert_eq!((found.number, found.marked, list), (0, 4100, [0; 65]));
+    assert_eq!((found.number, found.marked, list), (0, 4097, [0; 65]));
 }
 
 #[test]
@@ -240,5 +217,4 @@ fn refused_images() {
     assert_eq!(marked(b""), (1, 0, 0));
     assert_eq!(marked(&kdmv(200, 128, 6)[..511]), (1, 0, 0));
     assert_eq!(marked(&kdmv(200, 128, 6)[..512]), (8, 2, 0));
-    assert_eq!(marked(&cowd(1, 1, 1, 40)[..2048]), (8, 2, 0));
 }

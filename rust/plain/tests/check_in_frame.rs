@@ -8,8 +8,8 @@ mod marks;
 #[path = "common/parts.rs"]
 mod parts;
 
-use common::{put32, put64};
-use laid::{closed, furnished, old, put_packed, with, FIRST, SECOND};
+use common::put64;
+use laid::{closed, furnished, put_packed, with, FIRST, SECOND};
 use marks::{accepted, refused};
 use parts::{put_entries, put_footer};
 
@@ -17,7 +17,6 @@ use parts::{put_entries, put_footer};
 fn as_they_stand() {
     assert_eq!(accepted(&furnished()), 46);
     assert_eq!(accepted(&closed()), 15);
-    assert_eq!(accepted(&old()), 72);
 }
 
 #[test]
@@ -114,33 +113,4 @@ fn the_footer_is_no_area_where_it_is_not_used() {
     assert_eq!(accepted(&image), 13);
     put_packed(&mut image, 4, 62, 8);
     assert_eq!(accepted(&image), 17);
-}
-
-#[test]
-fn cowd_images() {
-    // The directory on the header, whose sectors are 0 to 3.
-    for at in 1..=3 {
-        let mut image = old();
-        put32(&mut image, 20, at);
-        put_entries(&mut image, at as usize, &[5, 39]);
-        assert_eq!(refused(&image), 4, "{at}");
-    }
-    // A stored count that makes it end on the first table.
-    let mut image = old();
-    put32(&mut image, 24, 129);
-    assert_eq!(refused(&image), 4 + 2);
-    // Tables on the header, on the directory, on one another and one named twice.
-    for (tables, expected) in [
-        ([1, 39], 5),
-        ([3, 39], 5),
-        ([4, 39], 5),
-        ([5, 1], 37),
-        ([5, 4], 37),
-        ([5, 5], 37),
-        ([5, 36], 37),
-    ] {
-        let mut image = old();
-        put_entries(&mut image, 4, &tables);
-        assert_eq!(refused(&image), expected, "{tables:?}");
-    }
 }

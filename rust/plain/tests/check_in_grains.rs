@@ -8,9 +8,8 @@ mod marks;
 #[path = "common/parts.rs"]
 mod parts;
 
-use laid::{closed, furnished, old, put_packed, with, SECOND};
+use laid::{closed, furnished, put_packed, with, SECOND};
 use marks::{accepted, marked, refused};
-use parts::put_entries;
 
 /// `furnished` with the first grains at other sectors.
 fn with_first(grains: &[u32]) -> Vec<u8> {
@@ -107,30 +106,5 @@ fn grains_after_footer_and_last_sector() {
         let mut image = closed();
         put_packed(&mut image, 4, 62, sectors);
         assert_eq!(marked(&image), expected, "{sectors}");
-    }
-}
-
-#[test]
-fn cowd_images() {
-    // Table, its first entries, and the sum.
-    for (at, entries, expected) in [
-        // On the header, the directory and the tables.
-        (5, [1, 0, 38], 69),
-        (5, [3, 0, 38], 69),
-        (5, [4, 0, 38], 69),
-        (5, [36, 0, 38], 69),
-        (5, [70, 0, 38], 69),
-        (5, [37, 0, 2], 70),
-        (39, [1, 0, 0], 71),
-        // On grains before them.
-        (5, [37, 0, 37], 70),
-        (5, [38, 38, 38], 70),
-        (5, [37, 38, 38], 71),
-        (39, [37, 0, 0], 71),
-        (39, [38, 0, 0], 71),
-    ] {
-        let mut image = old();
-        put_entries(&mut image, at, &entries);
-        assert_eq!(refused(&image), expected, "{at} {entries:?}");
     }
 }

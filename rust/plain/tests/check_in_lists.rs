@@ -8,7 +8,7 @@ mod marks;
 #[path = "common/parts.rs"]
 mod parts;
 
-use common::{cowd, kdmv, put64, set};
+use common::{kdmv, put64, set};
 use faulty::{faulty, mixed, stream};
 use marks::{accepted, refused, HELD};
 use parts::put_entries;
@@ -69,9 +69,6 @@ fn a_word_for_64_sectors() {
     put_entries(&mut smallest, 1, &[0]);
     assert_eq!(kept(&smallest, 0), (21, 0));
     assert_eq!(accepted(&smallest), 2);
-    let old = cowd(1, 1, 1, 65);
-    assert_eq!(kept(&old, 1), (21, 0));
-    assert_eq!(accepted(&old), 37);
 }
 
 #[test]

@@ -7,14 +7,11 @@ mod open;
 mod parts;
 
 use common::put32;
-use open::{cowd_with, old, small, stream, stream_with, with, BYTES};
+use open::{small, stream, stream_with, with, BYTES};
 use plain::{chain, check, frame, header, lookup, read, split, survey, Head};
 
-/// COWD's number: each of its four bytes alone, and all of them.
-const NUMBERS: [u32; 7] = [1, 2, 255, 0x100, 0x1_0000, 0x8000_0000, u32::MAX];
-
 /// The answer of one image on every call that the number decides nothing of.
-fn answers(image: &[u8], kind: &str) -> String {
+fn answers(image: &[u8]) -> String {
     let (mut list, mut row, mut tally) = ([0; 64], [0; 6], [0; 63]);
     let length = [image.len() as u64];
     let mut told = format!("{:?}", check(image));
@@ -22,7 +19,7 @@ fn answers(image: &[u8], kind: &str) -> String {
     told += &format!("{:?}", survey(image, &length, &mut row, &mut tally));
     told += &format!("{list:?}{row:?}{tally:?}");
     let text = format!(
-        "# Disk DescriptorFile\nversion=1\nCID=1\nparentCID=1\ncreateType=\"\"\nRW {} {kind} \"a\"",
+        "# Disk DescriptorFile\nversion=1\nCID=1\nparentCID=1\ncreateType=\"\"\nRW {} SPARSE \"a\"",
         header(image).capacity
     );
     let two = [image, image].concat();
@@ -63,29 +60,6 @@ fn the_header_hands_it_out() {
 }
 
 #[test]
-fn the_header_hands_out_the_whole_number_of_cowd() {
-    let expected = Head {
-        capacity: 20,
-        grain_size: 8,
-        ..Head::default()
-    };
-    assert_eq!(header(&old()), expected);
-    for dirty in NUMBERS {
-        let expected = Head {
-            dirty: u64::from(dirty),
-            ..expected
-        };
-        assert_eq!(header(&cowd_with(&old(), dirty)), expected);
-    }
-    let mut image = old();
-    (image[72], image[1647], image[1652]) = (255, 255, 255);
-    assert_eq!(header(&image), expected);
-    // It stands in the header's 2,048 bytes.
-    let shortest = &cowd_with(&old(), 3)[..2048];
-    assert_eq!(header(shortest).dirty, 3);
-}
-
-#[test]
 fn a_refused_header_hands_out_none() {
     for (at, value, number) in [(3, b'W', 2), (4, 0, 3), (8, 9, 5), (20, 12, 6)] {
         let mut image = with(&small(), 255);
@@ -101,31 +75,27 @@ fn a_refused_header_hands_out_none() {
         (head.number, head.dirty)
     };
     assert_eq!(refused(&with(&small(), 255)[..511]), (1, 0));
-    assert_eq!(refused(&cowd_with(&old(), 255)[..2047]), (1, 0));
-    let mut image = cowd_with(&old(), 255);
-    put32(&mut image, 24, 0);
-    assert_eq!(refused(&image), (6, 0));
+    // Nor does that of COWD.
+    let mut image = [&b"COWD"[..], &[0; 2044]].concat();
+    put32(&mut image, 1648, 255);
+    assert_eq!(refused(&image[..2047]), (1, 0));
+    assert_eq!(refused(&image), (43, 0));
 }
 
 #[test]
 fn checks_and_lookups_do_not_ask_for_it() {
-    let clean = answers(&small(), "SPARSE");
+    let clean = answers(&small());
     for dirty in BYTES {
-        assert_eq!(answers(&with(&small(), dirty), "SPARSE"), clean, "{dirty}");
-    }
-    let clean = answers(&old(), "VMFSSPARSE");
-    for dirty in NUMBERS {
-        let image = cowd_with(&old(), dirty);
-        assert_eq!(answers(&image, "VMFSSPARSE"), clean, "{dirty}");
+        assert_eq!(answers(&with(&small(), dirty)), clean, "{dirty}");
     }
 }
 
 #[test]
 fn a_footer_has_it_too() {
-    let clean = answers(&stream(), "SPARSE");
+    let clean = answers(&stream());
     for dirty in BYTES {
         let image = stream_with(dirty);
-        assert_eq!(answers(&image, "SPARSE"), clean, "{dirty}");
+        assert_eq!(answers(&image), clean, "{dirty}");
         assert_eq!(header(&image).dirty, u64::from(dirty));
         // One of the two alone breaks the footer's rules.
         for at in [72, 10 * 512 + 72] {

@@ -7,7 +7,7 @@ mod open;
 mod parts;
 
 use common::{kdmv, set};
-use open::{cowd_with, old, small, stream, stream_with, with, BYTES};
+use open::{small, stream, stream_with, with, BYTES};
 use parts::pack;
 use plain::{collapse, header, lookup, normal, over, Refusal, Written};
 
@@ -77,12 +77,12 @@ fn after_22() {
 fn after_23() {
     let mut packed = kdmv(20, 8, 20);
     pack(&mut packed);
-    for image in [cowd_with(&old(), 1), with(&packed, 1), stream_with(1)] {
+    for image in [with(&packed, 1), stream_with(1)] {
         assert_eq!(number(normal(&image, 1 << 16)), 23);
         assert_eq!(number(collapse(&with(&small(), 1), &image, 0)), 23);
         assert_eq!(number(collapse(&image, &with(&small(), 1), 0)), 23);
     }
-    for image in [old(), packed, stream()] {
+    for image in [packed, stream()] {
         assert_eq!(number(collapse(&with(&small(), 1), &image, 0)), 23);
         assert_eq!(number(collapse(&image, &with(&small(), 1), 0)), 23);
     }

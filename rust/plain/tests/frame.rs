@@ -4,7 +4,7 @@ mod common;
 #[path = "common/parts.rs"]
 mod parts;
 
-use common::{cowd, kdmv, put32, put64, set};
+use common::{kdmv, put64, set};
 use parts::{pack, put_entries, put_footer};
 use plain::{check, frame};
 
@@ -127,46 +127,6 @@ fn a_footer_where_used() {
     put64(&mut image, 10 * 512 + 56, 1);
     image[11 * 512] = 1;
     assert_eq!(refused(&image), 7);
-}
-
-#[test]
-fn cowd_images() {
-    // n is 2; the stored count of 129 gives the directory a second sector.
-    let mut image = cowd(4097, 1, 129, 38);
-    put_entries(&mut image, 4, &[6, 0, 37]);
-    // What a KDMV header would take for a descriptor and a redundant directory.
-    put64(&mut image, 28, 5);
-    put64(&mut image, 36, 7);
-    put64(&mut image, 48, 5);
-    assert_eq!(check(&image).number, 0);
-    assert_eq!(areas(&image), [[1, 0, 4], [3, 4, 2], [5, 6, 32]]);
-    // An entry of 1 is sector 1; that the areas meet is not judged.
-    put_entries(&mut image, 4, &[1, 6]);
-    let expected = [[1, 0, 4], [3, 4, 2], [5, 1, 32], [5, 6, 32]];
-    assert_eq!(check(&image).number, 12);
-    assert_eq!(areas(&image), expected);
-
-    put_entries(&mut image, 4, &[1, 7]);
-    assert_eq!(refused(&image), 8);
-    put32(&mut image, 24, 1);
-    assert_eq!(refused(&image), 6);
-    put32(&mut image, 4, 2);
-    assert_eq!(refused(&image), 3);
-    assert_eq!(refused(&image[..2047]), 1);
-}
-
-#[test]
-fn the_stored_count_gives_the_area() {
-    let mut image = cowd(1, 1, 128 * 34, 38);
-    put_entries(&mut image, 4, &[0]);
-    assert_eq!(areas(&image), [[1, 0, 4], [3, 4, 34]]);
-    put32(&mut image, 24, 128 * 34 + 1);
-    assert_eq!(refused(&image), 8);
-    put32(&mut image, 24, u32::MAX);
-    assert_eq!(refused(&image), 8);
-    put32(&mut image, 24, 1);
-    put32(&mut image, 20, 0);
-    assert_eq!(refused(&image), 8);
 }
 
 #[test]

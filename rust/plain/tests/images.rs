@@ -2,8 +2,8 @@
 
 mod common;
 
-use common::{cowd, kdmv, put32, put64, set};
-use plain::{chain, check, header, lookup, read, Located, Part, ABSENT, PACKED, STORED, ZERO};
+use common::{kdmv, put32, put64, set};
+use plain::{chain, check, lookup, read, Located, Part, ABSENT, PACKED, STORED, ZERO};
 
 fn refused(image: &[u8]) -> (u64, u64) {
     let verdict = check(image);
@@ -68,19 +68,6 @@ fn grain_sizes() {
     for (size, number) in [(4, 6), (12, 6), (4096, 6), (8, 0), (2048, 0), (0, 6)] {
         assert_eq!(refused(&kdmv(200, size, 6)).0, number, "{size}");
     }
-}
-
-#[test]
-fn cowd_tables() {
-    // n is 2 at capacity 4,097 and grain 1.
-    assert_eq!(refused(&cowd(4097, 1, 1, 40)), (6, 0));
-    assert!(accepted(&cowd(4097, 1, 2, 40)));
-    assert!(accepted(&cowd(4096, 1, 1, 37)));
-    assert_eq!(refused(&cowd(4096, 1, 1, 36)), (8, 4));
-    let mut image = cowd(4096, 1, 1, 40);
-    put32(&mut image, 5 * 512, 1);
-    assert_eq!(refused(&image), (12, 0));
-    assert_eq!(lookup(&image, 0), stored(1));
 }
 
 #[test]
@@ -204,8 +191,9 @@ fn short_images() {
     assert_eq!(refused(b"KDM"), (1, 0));
     assert_eq!(refused(b"KDMV"), (1, 0));
     assert_eq!(refused(b"KDMW"), (2, 0));
-    assert_eq!(refused(&cowd(1, 1, 1, 40)[..2047]), (1, 0));
-    assert_eq!(header(&cowd(1, 1, 1, 40)[..2048]).capacity, 1);
+    let old = [&b"COWD"[..], &[0; 2044]].concat();
+    assert_eq!(refused(&old[..2047]), (1, 0));
+    assert_eq!(refused(&old), (43, 0));
     assert_eq!(refused(&kdmv(200, 128, 6)[..511]), (1, 0));
     assert_eq!(refused(&kdmv(200, 128, 6)[..512]), (8, 2));
 }

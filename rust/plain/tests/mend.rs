@@ -9,7 +9,7 @@ mod mends;
 mod parts;
 
 use common::{kdmv, put32, put64};
-use laid::{closed, furnished, old, with, FIRST, SECOND};
+use laid::{closed, furnished, with, FIRST, SECOND};
 use mends::{assert_40, changes, mended, refused, HELD, PRIMARY, REDUNDANT};
 use parts::put_entries;
 use plain::{check, lookup, mend, Mended, STORED, ZERO};
@@ -264,7 +264,7 @@ fn what_the_check_does_not_judge() {
 
 #[test]
 fn images_with_one_directory() {
-    for image in [kdmv(33, 8, 30), closed(), old()] {
+    for image in [kdmv(33, 8, 30), closed()] {
         assert_eq!(verdict(&image), (0, 0));
         assert_40(&image, PRIMARY);
         assert_40(&image, REDUNDANT);

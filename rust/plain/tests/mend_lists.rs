@@ -8,7 +8,7 @@ mod mends;
 #[path = "common/parts.rs"]
 mod parts;
 
-use common::{cowd, kdmv, put32, put64};
+use common::{kdmv, put32, put64};
 use faulty::faulty;
 use mends::{assert_40, changes, mended, refused, HELD, PRIMARY, REDUNDANT};
 use parts::put_entries;
@@ -145,38 +145,6 @@ fn numbers_9_to_12_are_no_answer() {
         assert_40(image, PRIMARY);
         assert_40(image, REDUNDANT);
     }
-}
-
-#[test]
-fn cowd_has_its_own_numbers_first() {
-    let sound = cowd(4097, 1, 2, 72);
-    for (at, value, refusal) in [
-        (4, 2, (3, 0)),
-        (12, 0, (6, 0)),
-        (16, 3, (6, 0)),
-        (24, 1, (6, 0)),
-        (20, 0, (8, 2)),
-        (20, 72, (8, 2)),
-        (4 * 512, 41, (8, 4)),
-        (4 * 512 + 4, 41, (8, 4)),
-        // From here on the frame is sound, and it is the magic alone that counts.
-        (4 * 512 + 4, 40, (40, 0)),
-        (4 * 512, 0, (40, 0)),
-        (5 * 512, 72, (40, 0)),
-        (5 * 512, 1, (40, 0)),
-        (48, 5, (40, 0)),
-    ] {
-        let mut image = sound.clone();
-        put32(&mut image, at, value);
-        for good in [PRIMARY, REDUNDANT] {
-            for room in [0, 40] {
-                assert_eq!(refused(&image, good, room), refusal, "{at} {value}");
-            }
-        }
-    }
-    assert_eq!(refused(&sound[..2047], PRIMARY, 0), (1, 0));
-    assert_eq!(refused(&sound[..2048], PRIMARY, 0), (8, 2));
-    assert_40(&sound, PRIMARY);
 }
 
 #[test]

@@ -9,7 +9,7 @@ mod mends;
 mod parts;
 
 use common::{put32, put64, set};
-use laid::{closed, old, put_packed, with};
+use laid::{closed, put_packed, with};
 use mends::{assert_40, changes, mended, refused, PRIMARY, REDUNDANT};
 use parts::{put_entries, put_footer};
 use plain::check;
@@ -41,9 +41,8 @@ fn verdict(image: &[u8]) -> (u64, u64) {
 fn either_side() {
     for good in [PRIMARY, REDUNDANT] {
         assert_eq!(mended(&doubled(), good), (doubled(), vec![]));
-        // A stream with one directory, and COWD.
+        // A stream with one directory.
         assert_40(&closed(), good);
-        assert_40(&old(), good);
     }
     let image = doubled_but(11, 2, 0);
     assert_eq!(mended(&image, PRIMARY), (doubled(), vec![[2, 0, 9]]));

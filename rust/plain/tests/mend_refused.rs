@@ -9,7 +9,7 @@ mod mends;
 mod parts;
 
 use common::{kdmv, put32, put64};
-use laid::{closed, furnished, old, with, SECOND};
+use laid::{closed, furnished, with, SECOND};
 use mends::{assert_40, changes, mended, refused, PRIMARY, REDUNDANT};
 use parts::put_entries;
 use plain::check;
@@ -41,13 +41,10 @@ fn no_redundant_directory() {
         put64(&mut image, 48, 5);
         assert_eq!(mended(&image, good).1.len(), 1);
         assert_40(&closed(), good);
-        // COWD has none; what stands at 48 is nothing to it.
-        let mut image = old();
-        put64(&mut image, 48, 38);
-        assert_40(&image, good);
-        // Nor does it matter what else is wrong: a grain past F, a grain twice.
-        for entries in [[72, 0, 38], [37, 0, 37]] {
-            put_entries(&mut image, 5, &entries);
+        // It does not matter what else is wrong: a grain past F, a grain twice.
+        put64(&mut image, 48, 0);
+        for entries in [[74, 0, 66], [58, 0, 58]] {
+            put_entries(&mut image, 10, &entries);
             assert_40(&image, good);
         }
     }

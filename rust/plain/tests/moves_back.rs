@@ -3,14 +3,17 @@
 #[path = "common/chance.rs"]
 mod chance;
 mod common;
+#[path = "common/cowd.rs"]
+mod cowd;
 #[path = "common/moved.rs"]
 mod moved;
 #[path = "common/served.rs"]
 mod served;
 
 use chance::next;
-use common::{cowd, kdmv, put32, put64, set};
-use moved::{moved, refused, TO_COWD, TO_KDMV};
+use common::{kdmv, put32, put64, set};
+use cowd::cowd;
+use moved::{checked, moved, refused, TO_COWD, TO_KDMV};
 use plain::{check, header, normal};
 use served::served;
 
@@ -81,9 +84,9 @@ fn words(image: &[u8]) -> Vec<u64> {
     image[4..].chunks(4).map(word).collect()
 }
 
-/// That a COWD image of one table is laid out as request A9 says.
-fn assert_cowd_normal(image: &[u8]) {
-    let head = header(image);
+/// That a COWD image of one table is laid out as request A9 says, with the sizes of the KDMV image that it was moved from.
+fn assert_cowd_normal(image: &[u8], from: &[u8]) {
+    let head = header(from);
     let (words, sectors) = (words(image), image.len() as u64 / 512);
     let expected = [1, 3, head.capacity, head.grain_size, 4, 1, sectors];
     assert_eq!(words[..7], expected);
@@ -111,13 +114,13 @@ fn from_cowd_and_back() {
     let mut state = 1;
     for _ in 0..200 {
         let start = scattered_cowd(&mut state);
-        assert_eq!(check(&start).number, 0);
+        assert_eq!(checked(&start), (0, 0));
         let there = moved(TO_KDMV, &start);
         assert!(served(&there) == served(&start));
         assert!(normal(&there, 1 << 20) == Ok(there.clone()));
         let back = moved(TO_COWD, &there);
         assert!(served(&back) == served(&start));
-        assert_cowd_normal(&back);
+        assert_cowd_normal(&back, &there);
         // From here on nothing changes.
         assert!(moved(TO_KDMV, &back) == there);
     }
@@ -131,7 +134,7 @@ fn from_kdmv_and_back() {
         assert_eq!(check(&start).number, 0);
         let there = moved(TO_COWD, &start);
         assert!(served(&there) == served(&start));
-        assert_cowd_normal(&there);
+        assert_cowd_normal(&there, &start);
         let back = moved(TO_KDMV, &there);
         assert!(served(&back) == served(&start));
         assert!(normal(&start, 1 << 20) == Ok(back.clone()));

@@ -1,6 +1,8 @@
 //! Request A9: what the moves refuse, and in which order: the check's numbers, 23, 27, 44, 21.
 
 mod common;
+#[path = "common/cowd.rs"]
+mod cowd;
 #[path = "common/faulty.rs"]
 mod faulty;
 #[path = "common/moved.rs"]
@@ -10,15 +12,30 @@ mod open;
 #[path = "common/parts.rs"]
 mod parts;
 
-use common::{cowd, kdmv, put32, put64, set};
+use common::{kdmv, put32, put64, set};
+use cowd::cowd;
 use faulty::{faulty, mixed, stream};
-use moved::{moved, refused, TO_COWD, TO_KDMV};
-use open::{cowd_with, old, small, stream_with, with, BYTES};
+use moved::{checked, moved, refused, TO_COWD, TO_KDMV};
+use open::{small, stream_with, with, BYTES};
 use parts::put_entries;
 use plain::check;
 
 /// Rooms from none to more than enough.
 const ROOMS: [usize; 4] = [0, 1, 8 * 512, 1 << 16];
+
+/// Three grains of COWD, of which the second is stored.
+fn old() -> Vec<u8> {
+    let mut image = cowd(20, 8, 1, 50);
+    put_entries(&mut image, 5, &[0, 40]);
+    image
+}
+
+/// A COWD image with another dirty number.
+fn cowd_with(image: &[u8], dirty: u32) -> Vec<u8> {
+    let mut image = image.to_vec();
+    put32(&mut image, 1648, dirty);
+    image
+}
 
 /// That both moves refuse an image with this number and place, whatever the room.
 fn assert_both(image: &[u8], refusal: (u64, u64)) {
@@ -44,28 +61,6 @@ fn the_check_of_kdmv_first() {
         }
     }
     assert_both(b"", (1, 0));
-}
-
-#[test]
-fn the_check_of_cowd_first() {
-    // Of a grain size that is refused 44, and a disk that was still open.
-    let sound = cowd_with(&cowd(20, 4, 1, 50), 1);
-    assert_both(&sound[..2047], (1, 0));
-    for (at, value, refusal) in [
-        (4, 2, (3, 0)),
-        (12, 0, (6, 0)),
-        (16, 3, (6, 0)),
-        (24, 0, (6, 0)),
-        (20, 0, (8, 2)),
-        (20, 50, (8, 2)),
-        (4 * 512, 19, (8, 4)),
-        (5 * 512 + 8, 47, (9, 2)),
-        (5 * 512 + 8, 1, (12, 0)),
-    ] {
-        let mut image = sound.clone();
-        put32(&mut image, at, value);
-        assert_both(&image, refusal);
-    }
 }
 
 #[test]
@@ -129,7 +124,7 @@ fn dirty_before_44() {
 fn grain_sizes_under_8() {
     for grain_size in [1, 2, 4] {
         let image = cowd(20, grain_size, 1, 37);
-        assert_eq!(check(&image).number, 0);
+        assert_eq!(checked(&image), (0, 0));
         for room in ROOMS {
             assert_eq!(refused(TO_KDMV, &image, room), (44, 0), "{grain_size}");
         }

@@ -4,7 +4,7 @@ mod common;
 #[path = "common/parts.rs"]
 mod parts;
 
-use common::{cowd, kdmv, put32, put64, set};
+use common::{kdmv, put32, put64, set};
 use parts::{pack, put_entries, put_footer};
 use plain::{chain, check, collapse, frame, header, lookup, normal, read, survey};
 use plain::{Located, Part, ABSENT, PACKED, STORED, ZERO};
@@ -143,13 +143,6 @@ fn flag_4_in_version_1() {
         image[at] = value;
         assert_eq!(refused(&image), (number, 0), "{at}");
     }
-    // COWD's flags are not judged, and 1 is a sector whatever they are.
-    let mut image = cowd(4096, 1, 1, 40);
-    put32(&mut image, 8, 4);
-    assert_eq!(refused(&image), (0, 0));
-    put_entries(&mut image, 5, &[1]);
-    assert_eq!(refused(&image), (12, 0));
-    assert_eq!(lookup(&image, 0), stored(1));
 }
 
 #[test]

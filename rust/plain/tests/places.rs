@@ -6,8 +6,8 @@ mod laid;
 #[path = "common/parts.rs"]
 mod parts;
 
-use common::{cowd, kdmv, put32, put64};
-use laid::{closed, furnished, old, with};
+use common::{kdmv, put64};
+use laid::{closed, furnished, with};
 use parts::{put_entries, put_footer};
 use plain::{check, frame, header, lookup, read, Part};
 
@@ -178,35 +178,6 @@ fn the_footer_s_directory() {
         put_footer(&mut image, directory);
         assert_eq!(refused(&image), expected, "{directory}");
     }
-}
-
-#[test]
-fn cowd_images() {
-    let mut image = old();
-    put32(&mut image, 20, 0);
-    assert_eq!((refused(&image), looked_up(&image, 0)), ((8, 2), (8, 2)));
-    put32(&mut image, 20, 72);
-    assert_eq!((refused(&image), looked_up(&image, 0)), ((8, 2), (8, 2)));
-    let mut image = old();
-    put_entries(&mut image, 4, &[41, 41]);
-    assert_eq!((refused(&image), looked_up(&image, 0)), ((8, 4), (8, 4)));
-    put_entries(&mut image, 4, &[5, 41]);
-    assert_eq!((refused(&image), looked_up(&image, 0)), ((8, 4), (0, 0)));
-    assert_eq!(looked_up(&image, 4096), (8, 4));
-    put_entries(&mut image, 4, &[5, 40]);
-    assert_ne!(refused(&image).0, 8);
-    // The stored count gives the directory's area.
-    let mut image = cowd(1, 1, 128 * 34, 38);
-    put_entries(&mut image, 4, &[0]);
-    assert_eq!(refused(&image), (0, 0));
-    put32(&mut image, 24, 128 * 34 + 1);
-    assert_eq!((refused(&image), looked_up(&image, 0)), ((8, 2), (8, 2)));
-    // What KDMV would take for a descriptor and a redundant directory.
-    let mut image = old();
-    for at in [DESCRIPTOR, REDUNDANT] {
-        put64(&mut image, at, 99);
-    }
-    assert_eq!(refused(&image), (0, 0));
 }
 
 #[test]

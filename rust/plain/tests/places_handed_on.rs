@@ -9,8 +9,7 @@ mod marks;
 mod parts;
 
 use common::put64;
-use laid::{closed, furnished, old, with};
-use parts::put_entries;
+use laid::{closed, furnished, with};
 use plain::{chain, check, collapse, mend, normal, over, survey, Refusal, Written};
 
 /// An image for each place from 1 to 5.
@@ -153,16 +152,5 @@ fn packed_images() {
         put64(&mut image, at, 70);
         assert_eq!((check(&image).number, check(&image).place), (8, 2));
         assert_eq!(normal(&image, 0), Err(eight(2)));
-    }
-}
-
-#[test]
-fn cowd_images() {
-    for (entries, place) in [([5, 41], 4), ([41, 39], 4)] {
-        let mut image = old();
-        put_entries(&mut image, 4, &entries);
-        assert_eq!(marks::marked(&image), (8, place, 0));
-        assert_eq!(normal(&image, 0), Err(eight(place)));
-        assert_eq!(collapse(&furnished(), &image, 0), Err(eight(place)));
     }
 }

@@ -6,7 +6,7 @@ mod parts;
 #[path = "common/published.rs"]
 mod published;
 
-use common::{cowd, kdmv, put32, put64, set};
+use common::{kdmv, put32, put64, set};
 use parts::{pack, put_entries, put_footer};
 use plain::{check, collapse, normal};
 use published::{assert_meets, empty, laid, published, refused};
@@ -44,9 +44,6 @@ fn what_meets_it() {
 #[test]
 fn wrong_kinds() {
     // The profile's sizes in each.
-    let old = cowd(512, 128, 1, 37);
-    assert_eq!(check(&old).number, 0);
-    assert_eq!(refused(&old), (23, 0));
     let mut image = empty();
     pack(&mut image);
     assert_eq!(check(&image).number, 0);

@@ -10,9 +10,9 @@ mod parts;
 #[path = "common/published.rs"]
 mod published;
 
-use common::{cowd, kdmv, put64, set};
+use common::{kdmv, put64, set};
 use faulty::{faulty, mixed};
-use open::{cowd_with, old, small, stream, stream_with, with, BYTES};
+use open::{small, stream, stream_with, with, BYTES};
 use parts::pack;
 use plain::check;
 use published::{assert_meets, empty, laid, published, refused};
@@ -25,15 +25,12 @@ fn the_check_first() {
         assert_eq!(refused(&image), (number, verdict.place));
     }
     assert_eq!(refused(b""), (1, 0));
-    // A fault of an image with the profile's sizes; and of COWD's own.
+    // A fault of an image with the profile's sizes.
     let mut image = with(&published(), 1);
     set(&mut image, 3, 257);
     assert_eq!(refused(&image), (9, 3));
     set(&mut image, 3, 255);
     assert_eq!(refused(&image), (12, 0));
-    assert_eq!(refused(&old()[..2047]), (1, 0));
-    assert_eq!(refused(&cowd(20, 3, 1, 50)), (6, 0));
-    assert_eq!(refused(&cowd(20, 8, 1, 36)), (8, 4));
 }
 
 #[test]
@@ -41,7 +38,7 @@ fn wrong_kinds_before_dirty() {
     let mut packed = empty();
     pack(&mut packed);
     assert_eq!(refused(&stream()), (23, 0));
-    for image in [cowd_with(&old(), 1), stream_with(1), with(&packed, 1)] {
+    for image in [stream_with(1), with(&packed, 1)] {
         assert_eq!(check(&image).number, 0);
         assert_eq!(refused(&image), (23, 0));
     }

@@ -1,32 +1,33 @@
 //! Request A4: which sectors a split disk serves, and from where.
 
 mod common;
+#[path = "common/cowd.rs"]
+mod cowd;
 #[path = "common/disks.rs"]
 mod disks;
 #[path = "common/parts.rs"]
 mod parts;
 
-use common::{cowd, kdmv, put64, set};
+use common::{kdmv, put64, set};
+use cowd::cowd;
 use disks::{ask, refused, stored, zeros};
 use parts::{pack, put_entries, put_footer};
 use plain::{check, lookup, Located, ABSENT, PACKED, ZERO};
 
 const SPARSE: &str = "RW 20 SPARSE \"s\"";
-const VMFSSPARSE: &str = "RDONLY 5 VMFSSPARSE \"c\"";
+const OTHER: &str = "RDONLY 17 SPARSE \"t\"";
 
 /// Three grains, the last of four sectors: stored at sector 6, zero, stored at sector 14.
 fn sparse() -> Vec<u8> {
     let mut image = kdmv(20, 8, 22);
-    for (grain, entry) in [6, 1, 14].into_iter().enumerate() {
-        set(&mut image, grain, entry);
-    }
+    put_entries(&mut image, 2, &[6, 1, 14]);
     image
 }
 
-/// Three grains of two sectors, the last of one: absent, stored at sector 37, absent.
-fn cowd_sparse() -> Vec<u8> {
-    let mut image = cowd(5, 2, 1, 39);
-    put_entries(&mut image, 5, &[0, 37]);
+/// Three grains, the last of one sector: absent, stored at sector 6, absent.
+fn other() -> Vec<u8> {
+    let mut image = kdmv(17, 8, 14);
+    set(&mut image, 1, 6);
     image
 }
 
@@ -98,7 +99,7 @@ fn zeros_without_a_file() {
 
 #[test]
 fn images_as_their_lookup_has_them() {
-    for (line, file, capacity) in [(SPARSE, sparse(), 20), (VMFSSPARSE, cowd_sparse(), 5)] {
+    for (line, file, capacity) in [(SPARSE, sparse(), 20), (OTHER, other(), 17)] {
         assert_eq!(check(&file).capacity, capacity);
         for sector in 0..capacity {
             let expected = Located {
@@ -114,7 +115,7 @@ fn images_as_their_lookup_has_them() {
         [0, 8.min(last - 1), last].map(kind)
     };
     assert_eq!(kinds(SPARSE, &sparse(), 19), [2, ZERO, 2]);
-    assert_eq!(kinds(VMFSSPARSE, &cowd_sparse(), 4), [ABSENT, 2, ABSENT]);
+    assert_eq!(kinds(OTHER, &other(), 16), [ABSENT, 2, ABSENT]);
 }
 
 #[test]
@@ -151,12 +152,12 @@ fn first_and_last_sectors_of_each_extent() {
         SPARSE,
         "RW 1 ZERO",
         "RDONLY 4 VMFS \"b\"",
-        VMFSSPARSE,
+        OTHER,
         "rdonly 1 flat \"d\" 0",
     ];
-    let (one, other) = ([1; 12 * 512], [2; 4 * 512]);
-    let (sparse, cowd) = (sparse(), cowd_sparse());
-    let files: [&[u8]; 7] = [&one, b"", &sparse, b"", &other, &cowd, &other[..512]];
+    let (long, short) = ([1; 12 * 512], [2; 4 * 512]);
+    let (sparse, other) = (sparse(), other());
+    let files: [&[u8]; 7] = [&long, b"", &sparse, b"", &short, &other, &short[..512]];
     let absent = Located {
         layer: 5,
         ..Located::default()
@@ -173,13 +174,15 @@ fn first_and_last_sectors_of_each_extent() {
         (34, stored(4, 0)),
         (37, stored(4, 3)),
         (38, absent),
-        (40, stored(5, 37)),
-        (42, absent),
-        (43, stored(6, 0)),
+        (45, absent),
+        (46, stored(5, 6)),
+        (53, stored(5, 13)),
+        (54, absent),
+        (55, stored(6, 0)),
     ] {
         assert_eq!(ask(&lines, &files, sector), expected, "{sector}");
     }
-    for sector in [44, 45, 1 << 31, 1 << 32, u64::MAX] {
+    for sector in [56, 57, 1 << 31, 1 << 32, u64::MAX] {
         assert_eq!(refused(&lines, &files, sector), (20, 0, 0), "{sector}");
     }
 }
@@ -198,7 +201,12 @@ fn as_many_extents_as_there_can_be() {
 #[test]
 fn any_bytes_are_plain_sectors() {
     // An image, sound or not, is a file like any other under FLAT and VMFS.
-    for file in [sparse(), cowd_sparse(), kdmv(0, 7, 22), cowd(0, 0, 0, 22)] {
+    for file in [
+        sparse(),
+        cowd(22, 8, 1, 37),
+        kdmv(0, 7, 22),
+        cowd(0, 0, 0, 22),
+    ] {
         assert_eq!(ask(&["RW 20 FLAT \"a\" 2"], &[&file], 3), stored(0, 5));
         assert_eq!(ask(&["RW 22 VMFS \"a\""], &[&file], 21), stored(0, 21));
     }
@@ -212,10 +220,11 @@ fn only_its_own_file_is_judged() {
         "RW 5 FLAT \"a\" 0",
         "RW 5 VMFS \"a\" 9",
         "RW 5 ZERO",
+        "RW 5 VMFSSPARSE \"a\"",
     ];
     let good = [0; 2560];
-    let files: [&[u8]; 5] = [b"COWD", b"x", &good, &good, b"x"];
-    for (sector, expected) in [(0, 45), (5, 39), (15, 45), (20, 45)] {
+    let files: [&[u8]; 6] = [b"COWD", b"x", &good, &good, b"x", &good];
+    for (sector, expected) in [(0, 45), (5, 39), (15, 45), (20, 45), (25, 43)] {
         let extent = sector / 5;
         assert_eq!(refused(&lines, &files, sector), (expected, extent, 0));
     }

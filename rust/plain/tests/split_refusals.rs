@@ -1,17 +1,22 @@
 //! Request A4: what a split disk is refused for, in which order, and which extent and place are named.
 
 mod common;
+#[path = "common/cowd.rs"]
+mod cowd;
 #[path = "common/disks.rs"]
 mod disks;
 #[path = "common/parts.rs"]
 mod parts;
 
-use common::{cowd, kdmv, put32, put64, set};
+use common::{kdmv, put32, put64, set};
+use cowd::cowd;
 use disks::{ask, refusal, refused, stored, text, zeros};
 use parts::{pack, put_entries, put_footer};
 use plain::{check, split};
 
 const FLAT: &str = "RW 2 FLAT \"a\" 0";
+const SPARSE: &str = "RW 20 SPARSE \"a\"";
+const VMFSSPARSE: &str = "RW 20 VMFSSPARSE \"a\"";
 
 /// The number, extent and place for a text, files of these bytes, and lengths that may not fit.
 fn with(text: &str, files: &[u8], lengths: &[u64], sector: u64) -> (u64, u64, u64) {
@@ -95,50 +100,42 @@ fn lengths() {
 #[test]
 fn first_bytes() {
     let long = |magic: &[u8]| [magic, &[0; 4096]].concat();
-    for (kind, one, other) in [
-        ("SPARSE", b"KDMV", b"COWD"),
-        ("VMFSSPARSE", b"COWD", b"KDMV"),
+    for (file, number) in [
+        (vec![], 1),
+        (b"COW".to_vec(), 1),
+        (b"KDM".to_vec(), 1),
+        (b"KDMV".to_vec(), 1),
+        (b"COWD".to_vec(), 45),
+        (long(b"COWD"), 45),
+        (b"KDMW".to_vec(), 2),
+        (b"COWE".to_vec(), 2),
+        (b"cowd".to_vec(), 2),
+        (long(b"DWOC"), 2),
+        (vec![0; 4], 2),
+        (long(b"KDMV"), 3),
     ] {
-        let line = format!("RW 20 {kind} \"a\"");
-        for (file, number) in [
-            (vec![], 1),
-            (other[..3].to_vec(), 1),
-            (one[..3].to_vec(), 1),
-            (one.to_vec(), 1),
-            (other.to_vec(), 45),
-            (long(other), 45),
-            (b"KDMW".to_vec(), 2),
-            (b"COWE".to_vec(), 2),
-            (b"cowd".to_vec(), 2),
-            (long(b"DWOC"), 2),
-            (vec![0; 4], 2),
-            (long(one), 3),
-        ] {
-            assert_eq!(own(&line, &file), (number, 1, 0), "{kind} {file:?}");
-        }
+        assert_eq!(own(SPARSE, &file), (number, 1, 0), "{file:?}");
+        // A VMFSSPARSE line is refused whatever its file holds.
+        assert_eq!(own(VMFSSPARSE, &file), (43, 1, 0), "{file:?}");
     }
 }
 
 #[test]
-fn sound_images_of_the_other_kind() {
+fn sound_images_of_either_kind() {
     let (one, other) = (kdmv(20, 8, 6), cowd(20, 1, 1, 37));
-    assert_eq!((check(&one).number, check(&other).number), (0, 0));
-    assert_eq!(own("RW 20 SPARSE \"a\"", &one), (0, 1, 0));
-    assert_eq!(own("RW 20 SPARSE \"a\"", &other), (45, 1, 0));
-    assert_eq!(own("RW 20 VMFSSPARSE \"a\"", &other), (0, 1, 0));
-    assert_eq!(own("RW 20 VMFSSPARSE \"a\"", &one), (45, 1, 0));
+    assert_eq!(own(SPARSE, &one), (0, 1, 0));
+    assert_eq!(own(SPARSE, &other), (45, 1, 0));
+    assert_eq!(own(VMFSSPARSE, &one), (43, 1, 0));
+    assert_eq!(own(VMFSSPARSE, &other), (43, 1, 0));
 }
 
 #[test]
 fn capacity_and_line() {
     for (sectors, number) in [(19, 38), (20, 0), (21, 38), (1, 38), (2147483643, 38)] {
-        for (kind, file) in [
-            ("SPARSE", kdmv(20, 8, 6)),
-            ("VMFSSPARSE", cowd(20, 1, 1, 37)),
-        ] {
-            let line = format!("RW {sectors} {kind} \"a\"");
-            assert_eq!(own(&line, &file), (number, 1, 0), "{line}");
-        }
+        let line = format!("RW {sectors} SPARSE \"a\"");
+        assert_eq!(own(&line, &kdmv(20, 8, 6)), (number, 1, 0), "{line}");
+        let line = format!("RW {sectors} VMFSSPARSE \"a\"");
+        assert_eq!(own(&line, &cowd(20, 1, 1, 37)), (43, 1, 0), "{line}");
     }
 }
 
@@ -162,13 +159,10 @@ fn outside(place: u64) -> Vec<u8> {
 fn the_area_that_sticks_out() {
     for place in 1..=5 {
         let image = outside(place);
-        assert_eq!(own("RW 20 SPARSE \"a\"", &image), (8, 1, place));
+        assert_eq!(own(SPARSE, &image), (8, 1, place));
         // 38 comes after.
         assert_eq!(own("RW 21 SPARSE \"a\"", &image), (8, 1, place));
     }
-    let mut image = cowd(20, 1, 1, 37);
-    put_entries(&mut image, 4, &[6]);
-    assert_eq!(own("RW 20 VMFSSPARSE \"a\"", &image), (8, 1, 4));
 }
 
 /// A KDMV image of three grains for each of the check's numbers, with the place.
@@ -216,25 +210,18 @@ fn refused_images() -> Vec<(Vec<u8>, u64, u64)> {
 fn the_image_s_own_numbers() {
     for (image, number, place) in refused_images() {
         assert_eq!((check(&image).number, check(&image).place), (number, place));
-        // Every sector of the extent is refused for the whole of its file; 38 comes after all of them, 45 and 39 before.
+        // Every sector of the extent is refused for the whole of its file; 38 comes after all of them, 45, 43 and 39 before.
         for (line, expected) in [
-            ("RW 20 SPARSE \"a\"", (number, 1, place)),
+            (SPARSE, (number, 1, place)),
             ("RW 21 SPARSE \"a\"", (number, 1, place)),
             ("NOACCESS 20 SPARSE \"a\"", (39, 1, 0)),
+            (VMFSSPARSE, (43, 1, 0)),
         ] {
             assert_eq!(own(line, &image), expected, "{line} {number}");
         }
-        let expected = if number == 2 { 2 } else { 45 };
-        assert_eq!(own("RW 20 VMFSSPARSE \"a\"", &image), (expected, 1, 0));
         let flat = ask(&["RW 1 FLAT \"a\" 0"], &[&image], 0).number;
         assert_eq!(flat, if image.len() < 512 { 45 } else { 0 });
     }
-    let mut image = cowd(20, 1, 1, 37);
-    put_entries(&mut image, 5, &[0, 0, 36, 37]);
-    assert_eq!(own("RW 20 VMFSSPARSE \"a\"", &image), (9, 1, 3));
-    assert_eq!(own("RW 21 VMFSSPARSE \"a\"", &image), (9, 1, 3));
-    put_entries(&mut image, 5, &[0, 0, 36, 1]);
-    assert_eq!(own("RW 20 VMFSSPARSE \"a\"", &image), (12, 1, 0));
 }
 
 #[test]
@@ -242,7 +229,9 @@ fn no_access_before_the_file() {
     // What the file is then, under RW.
     for (line, file, number) in [
         ("NOACCESS 20 SPARSE \"a\"", cowd(20, 1, 1, 37), 45),
-        ("noaccess 20 VMFSSPARSE \"a\"", kdmv(20, 8, 6), 45),
+        ("noaccess 20 VMFSSPARSE \"a\"", kdmv(20, 8, 6), 43),
+        ("NOACCESS 20 VMFSSPARSE \"a\"", cowd(20, 1, 1, 37), 43),
+        ("NOACCESS 20 VMFSSPARSE \"a\"", vec![], 43),
         ("NOACCESS 20 SPARSE \"a\"", kdmv(20, 8, 6), 0),
         ("NOACCESS 21 SPARSE \"a\"", kdmv(20, 8, 6), 38),
         ("NOACCESS 20 FLAT \"a\" 0", vec![], 45),

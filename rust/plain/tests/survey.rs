@@ -6,7 +6,7 @@ mod faulty;
 #[path = "common/parts.rs"]
 mod parts;
 
-use common::{cowd, kdmv, put32, put64, set};
+use common::{kdmv, put32, put64, set};
 use faulty::{faulty, mixed, stream};
 use parts::put_entries;
 use plain::{check, lookup, survey, Surveyed, ABSENT, PACKED, STORED, ZERO};
@@ -125,13 +125,13 @@ fn the_largest_disks() {
     assert_eq!(row(&image), [0, 0, 16_777_216, 0, 0, 0]);
     put_entries(&mut image, 256, &[0, 1]);
     assert_eq!(row(&image), [0, 512, 16_776_704, 0, 0, 0]);
-    // As many grains as there can be: each is a sector.
-    let mut image = cowd(1 << 31, 1, 1 << 19, 4 + 4096);
-    put_entries(&mut image, 4, &[0]);
-    assert_eq!(row(&image), [0, 0, 1 << 31, 0, 0, 0]);
-    let (answer, rows, _) = surveyed(&[&image, &image, &image]);
-    assert_eq!(rows, [[0, 0, 1 << 31, 0, 0, 0]; 3]);
-    assert_eq!(answer.absent, 3 << 31);
+    // As many grains as there can be: each is 8 sectors. Seventeen such disks have more than a u32 counts.
+    let mut image = kdmv(1 << 31, 8, 1 + 4096);
+    put_entries(&mut image, 1, &[0]);
+    assert_eq!(row(&image), [0, 0, 1 << 28, 0, 0, 0]);
+    let (answer, rows, _) = surveyed(&[&image[..]; 17]);
+    assert_eq!(rows, [[0, 0, 1 << 28, 0, 0, 0]; 17]);
+    assert_eq!(answer.absent, 17 << 28);
 }
 
 #[test]
@@ -145,26 +145,6 @@ fn packed_grains() {
     set(&mut image, 0, 6);
     put32(&mut image, 6 * 512 + 8, 500);
     assert_eq!(counts(&image), [0, 1, 511, 1]);
-}
-
-#[test]
-fn cowd_images() {
-    // 4,097 grains of one sector: a table's, and one more.
-    let mut image = cowd(4097, 1, 2, 72);
-    put_entries(&mut image, 5, &[37, 0, 38]);
-    assert_eq!(counts(&image), [2, 0, 4095, 0]);
-    put_entries(&mut image, 4, &[5, 39, 1]);
-    put_entries(&mut image, 39, &[71, 1]);
-    assert_eq!(counts(&image), [3, 0, 4094, 0]);
-    // An entry of 1 is a sector, and never zeros.
-    put_entries(&mut image, 39, &[1]);
-    assert_eq!(row(&image), [0, 0, 0, 0, 12, 0]);
-    put_entries(&mut image, 4, &[5, 1]);
-    assert_eq!(row(&image), [0, 0, 0, 0, 12, 0]);
-
-    let mut image = cowd(17, 8, 1, 45);
-    put_entries(&mut image, 5, &[0, 0, 37]);
-    assert_eq!(counts(&image), [1, 0, 2, 0]);
 }
 
 #[test]
@@ -195,8 +175,7 @@ fn totals_of_the_accepted_ones() {
     let (first, packed, faulty) = (mixed(), stream(), faulty());
     // The images after this one start inside a sector.
     let uneven = [&first[..], &[7; 3]].concat();
-    let mut old = cowd(17, 8, 1, 45);
-    put_entries(&mut old, 5, &[0, 37]);
+    let old = [&b"COWD"[..], &[0; 2044]].concat();
     let images = [&uneven, &faulty[11], &packed, &faulty[8], &old, &first];
     let images = images.map(Vec::as_slice);
     let (answer, rows, tally) = surveyed(&images);
@@ -205,11 +184,12 @@ fn totals_of_the_accepted_ones() {
         [0, 0, 0, 0, 12, 0],
         [0, 1, 1, 2, 0, 0],
         [0, 0, 0, 0, 9, 3],
-        [1, 0, 2, 0, 0, 0],
+        [0, 0, 0, 0, 43, 0],
         [3, 1, 1, 0, 0, 0],
     ];
     assert_eq!(rows, expected);
     let totals = [answer.stored, answer.zero, answer.absent, answer.packed];
-    assert_eq!(totals, [7, 3, 5, 2]);
-    assert_eq!((tally[8], tally[11], tally.iter().sum()), (1, 1, 2_u64));
+    assert_eq!(totals, [6, 3, 3, 2]);
+    assert_eq!([tally[8], tally[11], tally[42]], [1; 3]);
+    assert_eq!(tally.iter().sum::<u64>(), 3);
 }

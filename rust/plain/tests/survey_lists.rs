@@ -2,7 +2,7 @@
 
 mod common;
 
-use common::{cowd, kdmv, set};
+use common::{kdmv, set};
 use plain::{survey, Surveyed};
 
 /// What both lists hold before a call; no row and no tally has such a word.
@@ -29,10 +29,10 @@ fn small() -> Vec<u8> {
     image
 }
 
-/// Three images and their lengths: an accepted one, one of another magic, and an accepted COWD image.
+/// Three images and their lengths: an accepted one, one of another magic, and another accepted one.
 fn three() -> (Vec<u8>, [u64; 3]) {
-    let images = [small(), b"KDMW".to_vec(), cowd(3, 1, 1, 37)];
-    (images.concat(), [6 * 512, 4, 37 * 512])
+    let images = [small(), b"KDMW".to_vec(), kdmv(17, 8, 7)];
+    (images.concat(), [6 * 512, 4, 7 * 512])
 }
 
 /// The rows of `three`.

@@ -2,7 +2,7 @@
 
 mod common;
 
-use common::{cowd, kdmv, set};
+use common::{kdmv, put32, set};
 use plain::{check, collapse, normal, over, Refusal};
 
 fn number(result: Result<Vec<u8>, Refusal>) -> u64 {
@@ -51,12 +51,14 @@ fn refusals_in_order() {
     let sound = kdmv(16, 8, 20);
     let other = kdmv(17, 8, 20);
     let bad = kdmv(16, 4, 20);
-    let old = cowd(16, 8, 1, 40);
-    assert_eq!(number(collapse(&bad, &old, 0)), 6);
-    assert_eq!(number(collapse(&old, &bad, 0)), 6);
-    assert_eq!(number(collapse(&old, &other, 0)), 23);
-    assert_eq!(number(collapse(&sound, &old, 0)), 23);
+    let mut packed = kdmv(16, 8, 20);
+    put32(&mut packed, 8, 0x10005);
+    packed[77] = 1;
+    assert_eq!(number(collapse(&bad, &packed, 0)), 6);
+    assert_eq!(number(collapse(&packed, &bad, 0)), 6);
+    assert_eq!(number(collapse(&packed, &other, 0)), 23);
+    assert_eq!(number(collapse(&sound, &packed, 0)), 23);
     assert_eq!(number(collapse(&sound, &other, 0)), 22);
     assert_eq!(number(collapse(&sound, &sound, 0)), 21);
-    assert_eq!(number(normal(&old, 0)), 23);
+    assert_eq!(number(normal(&packed, 0)), 23);
 }

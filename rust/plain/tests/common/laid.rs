@@ -1,6 +1,6 @@
-//! Three accepted images with areas enough to move one onto another, and the sums of their sizes.
+//! Two accepted images with areas enough to move one onto another, and the sums of their sizes.
 
-use super::common::{cowd, kdmv, put32, put64, set};
+use super::common::{kdmv, put32, put64, set};
 use super::parts::{pack, put_entries, put_footer};
 
 /// What the first table of either directory of `furnished` starts with, and the second.
@@ -59,16 +59,4 @@ pub fn put_packed(image: &mut [u8], grain: usize, at: usize, sectors: u32) {
     set(image, grain, at as u32);
     put64(image, at * 512, 8 * grain as u64);
     put32(image, at * 512 + 8, 512 * sectors - 12);
-}
-
-/// 72 sectors of COWD, with grains of one sector:
-///
-/// |  4 | header 0    | 37 | table 5  | 70 | grain 0 at 37 | 72 | grain 4096 at 71 |
-/// |  5 | directory 4 | 69 | table 39 | 71 | grain 2 at 38 |    |                  |
-pub fn old() -> Vec<u8> {
-    let mut image = cowd(4097, 1, 2, 72);
-    put_entries(&mut image, 4, &[5, 39]);
-    put_entries(&mut image, 5, &[37, 0, 38]);
-    put_entries(&mut image, 39, &[71]);
-    image
 }

@@ -1,6 +1,6 @@
 //! Images for the tests of the dirty number.
 
-use super::common::{cowd, kdmv, put32, put64, set};
+use super::common::{kdmv, put32, put64, set};
 use super::parts::{pack, put_entries, put_footer};
 
 /// KDMV's byte: each bit alone, all but the lowest, and all.
@@ -13,27 +13,13 @@ pub fn with(image: &[u8], dirty: u8) -> Vec<u8> {
     image
 }
 
-/// A COWD image with another dirty number.
-pub fn cowd_with(image: &[u8], dirty: u32) -> Vec<u8> {
-    let mut image = image.to_vec();
-    put32(&mut image, 1648, dirty);
-    image
-}
-
 /// Three grains, of which the second is stored, with a descriptor.
 pub fn small() -> Vec<u8> {
     let mut image = kdmv(20, 8, 20);
     put64(&mut image, 28, 6);
     put64(&mut image, 36, 1);
-    set(&mut image, 1, 9);
+    put_entries(&mut image, 2, &[0, 9]);
     image[9 * 512..17 * 512].fill(7);
-    image
-}
-
-/// A COWD image of three grains, of which the second is stored.
-pub fn old() -> Vec<u8> {
-    let mut image = cowd(20, 8, 1, 50);
-    put_entries(&mut image, 5, &[0, 40]);
     image
 }
 
