@@ -20,11 +20,12 @@ mod moves;
 mod numbers;
 mod profile;
 mod split;
+mod steps;
 mod survey;
 mod write;
 
 pub use answers::{
-    Closed, Described, Extent, Found, Framed, Head, Located, Marked, Mended, Part, Refusal,
+    Closed, Described, Extent, Found, Framed, Head, Located, Marked, Mended, Part, Refusal, Steps,
     Surveyed, Verdict, Written, ABSENT, PACKED, STORED, ZERO,
 };
 pub use chain::chain;
@@ -39,5 +40,6 @@ pub use mend::mend;
 pub use moves::{to_cowd, to_kdmv};
 pub use profile::profile;
 pub use split::split;
+pub use steps::steps;
 pub use survey::survey;
 pub use write::{collapse, normal, over};
