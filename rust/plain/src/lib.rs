@@ -1,7 +1,7 @@
 //! Document 01, as document 02's requests extend it, written out plainly and independently of the proved library, so that the
 //! two can be compared.
 //!
-//! Read it beside them: each file is one section or one request. Nothing here is fast or clever on purpose.
+//! Read it beside them: each file is one section, one request or one call. Nothing here is fast or clever on purpose.
 
 mod answers;
 mod chain;
