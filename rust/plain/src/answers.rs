@@ -92,6 +92,25 @@ pub struct Located {
     pub offset: u64,
 }
 
+/// How the lookup comes to its answer. `directory_at` and `table_at` count bytes of the file, the entries are the numbers that
+/// stand there; what was not reached is 0.
+#[derive(Clone, Copy, Debug, Default, PartialEq, Eq)]
+pub struct Steps {
+    pub number: u64,
+    pub place: u64,
+    /// 1 where an entry of 1 means zeros, 0 where it is a sector.
+    pub one_is_zero: u64,
+    pub grain: u64,
+    pub directory_at: u64,
+    pub directory_entry: u64,
+    pub table_at: u64,
+    pub table_entry: u64,
+    pub kind: u64,
+    pub sector: u64,
+    pub size: u64,
+    pub offset: u64,
+}
+
 /// The part of the image that the grain reader hands back, in bytes.
 #[derive(Clone, Copy, Debug, Default, PartialEq, Eq)]
 pub struct Part {

@@ -170,6 +170,6 @@ impl<'a> Image<'a> {
 }
 
 /// The byte where entry `index` starts in the directory or table at sector `at`.
-fn entry_at(at: u64, index: u64) -> u64 {
+pub fn entry_at(at: u64, index: u64) -> u64 {
     at * SECTOR + index * 4
 }

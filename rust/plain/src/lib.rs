@@ -1,7 +1,7 @@
 //! Document 01, as document 02's requests extend it, written out plainly and independently of the proved library, so that the
 //! two can be compared.
 //!
-//! Read it beside them: each file is one section or one request. Nothing here is fast or clever on purpose.
+//! Read it beside them: each file is one section, one request or one call. Nothing here is fast or clever on purpose.
 
 mod answers;
 mod chain;
@@ -20,11 +20,12 @@ mod moves;
 mod numbers;
 mod profile;
 mod split;
+mod steps;
 mod survey;
 mod write;
 
 pub use answers::{
-    Closed, Described, Extent, Found, Framed, Head, Located, Marked, Mended, Part, Refusal,
+    Closed, Described, Extent, Found, Framed, Head, Located, Marked, Mended, Part, Refusal, Steps,
     Surveyed, Verdict, Written, ABSENT, PACKED, STORED, ZERO,
 };
 pub use chain::chain;
@@ -39,5 +40,6 @@ pub use mend::mend;
 pub use moves::{to_cowd, to_kdmv};
 pub use profile::profile;
 pub use split::split;
+pub use steps::steps;
 pub use survey::survey;
 pub use write::{collapse, normal, over};

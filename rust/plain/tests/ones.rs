@@ -3,22 +3,14 @@
 mod common;
 #[path = "common/parts.rs"]
 mod parts;
+#[path = "common/versions.rs"]
+mod versions;
 
 use common::{kdmv, put32, put64, set};
 use parts::{pack, put_entries, put_footer};
 use plain::{chain, check, collapse, frame, header, lookup, normal, read, survey};
 use plain::{Located, Part, ABSENT, PACKED, STORED, ZERO};
-
-/// The version and the flags' first byte of headers where 1 is a sector, and of those where it is zeros.
-const SECTOR: [[u8; 2]; 3] = [[1, 1], [2, 1], [3, 1]];
-const ZEROS: [[u8; 2]; 2] = [[2, 5], [3, 5]];
-
-/// An image with another version and other flags.
-fn of(image: &[u8], [version, flags]: [u8; 2]) -> Vec<u8> {
-    let mut image = image.to_vec();
-    (image[4], image[8]) = (version, flags);
-    image
-}
+use versions::{of, SECTOR, ZEROS};
 
 fn refused(image: &[u8]) -> (u64, u64) {
     let verdict = check(image);

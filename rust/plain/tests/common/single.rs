@@ -1,7 +1,8 @@
 //! Every call on one image but the moves, asked for its refusal with several rooms for what it would write.
 
 use plain::{chain, check, check_in, close, frame, header, lookup, mend, normal, over, profile};
-use plain::{read, survey, Closed, Framed, Head, Located, Marked, Mended, Part, Verdict, Written};
+use plain::{read, steps, survey, Closed, Framed, Head, Located, Marked, Mended, Part, Steps};
+use plain::{Verdict, Written};
 
 /// Rooms from none to more than enough.
 const ROOMS: [usize; 3] = [0, 1, 1 << 14];
@@ -26,8 +27,13 @@ pub fn assert_all(image: &[u8], number: u64) {
         number,
         ..Located::default()
     };
+    let nowhere = Steps {
+        number,
+        ..Steps::default()
+    };
     for sector in [0, 19, 20, u64::MAX] {
         assert_eq!(lookup(image, sector), located);
+        assert_eq!(steps(image, sector), nowhere);
         assert_eq!(chain(image, &[image.len() as u64], sector), located);
         assert_eq!(read(image, sector), Part::default());
     }
@@ -89,6 +95,7 @@ pub fn assert_none(image: &[u8], number: u64) {
         profile(image).number,
         header(image).number,
         lookup(image, 0).number,
+        steps(image, 0).number,
         chain(image, &[image.len() as u64], 0).number,
         check_in(image, &mut list).number,
         frame(image, &mut list).number,
