@@ -1,5 +1,6 @@
 //! The commands and their words, as clap knows them.
 
+use crate::refusals::of_word;
 use clap::{value_parser, Arg, ArgAction, Command};
 use std::path::PathBuf;
 
@@ -76,7 +77,7 @@ pub fn command() -> Command {
                 .action(ArgAction::SetTrue),
         );
     let command = describing(digesting(reading(judging(command))));
-    closing(moving(mending(writing(command))))
+    telling(closing(moving(mending(writing(command)))))
 }
 
 fn judging(command: Command) -> Command {
@@ -221,4 +222,22 @@ fn closing(command: Command) -> Command {
             .arg(output(IMAGE_OUT, true))
             .arg(force()),
     )
+}
+
+fn telling(command: Command) -> Command {
+    let refusal = Arg::new("refusal")
+        .value_name("N")
+        .help("The number of a refusal; without it all are listed")
+        .value_parser(of_word);
+    command
+        .subcommand(
+            subcommand("header")
+                .about("Says of each field of a header what stands there, what it means, and which rule it meets or breaks")
+                .arg(files("The image").num_args(1)),
+        )
+        .subcommand(
+            subcommand("refusals")
+                .about("Says what the numbers of refusals mean, what causes them and what to try")
+                .arg(refusal),
+        )
 }

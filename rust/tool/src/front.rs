@@ -4,7 +4,7 @@ use anhkhovet::{Disk, SECTOR};
 use std::ops::Range;
 
 /// The header's fields: where each ends, and what it is.
-const FIELDS: [(u64, &str); 15] = [
+pub const FIELDS: [(u64, &str); 15] = [
     (4, "magic"),
     (8, "version"),
     (12, "flags"),
@@ -35,7 +35,7 @@ pub struct Front {
 }
 
 /// A quotient, rounded up.
-fn up(number: u64, by: u64) -> u64 {
+pub fn up(number: u64, by: u64) -> u64 {
     (number + by - 1) / by
 }
 

@@ -29,6 +29,7 @@ mod given;
 mod grains;
 mod guard;
 mod hash;
+mod header;
 mod held;
 mod hint;
 mod json;
@@ -52,6 +53,7 @@ mod place;
 mod print;
 mod profile;
 mod progress;
+mod refusals;
 mod reports;
 mod room;
 mod sector;
@@ -91,6 +93,8 @@ fn run(task: Task, json: bool) -> Result<(), Failure> {
         Task::Move(files, target) => moves::run(&files, &target, json),
         Task::Close(file, target) => close::close(&file, &target, json),
         Task::Describe(file, sector) => describe::describe(&file, sector, json),
+        Task::Header(file) => header::header(&file, json),
+        Task::Refusals(number) => refusals::refusals(number, json),
     }
 }
 
