@@ -1,5 +1,5 @@
-//! `header`: every field of a header as it stands in the file, what it means, and which rule it meets or breaks. It answers where it
-//! is needed most: of headers that are refused.
+//! `header`: every field of a header as it stands in the file, what it means, and which rule it meets or breaks. It answers of
+//! refused headers too, where it is needed most.
 
 mod footer;
 mod kdmv;
@@ -14,6 +14,7 @@ use crate::hint::hinted;
 use crate::layer::Layer;
 use crate::names::{name, put_name};
 use crate::print;
+use crate::still_open::{self, still_open};
 use anhkhovet::{Refusal, SECTOR};
 use kdmv::Numbers;
 use row::{table, Asked, Row};
@@ -39,7 +40,8 @@ const FOOTER: u64 = 7;
 /// The order in which the library asks.
 const ORDER: [u64; 8] = [TOO_SHORT, MAGIC, COWD_GONE, 3, 4, 5, 6, FOOTER];
 
-const MOVED: &str = "COWD is the older kind of sparse image: `anhkhovet move FILE -o OUT` writes it as KDMV, and no other command takes it";
+const MOVED: &str = "COWD is the older kind of sparse image: `anhkhovet move FILE -o OUT` writes it as KDMV, and no other \
+                     command takes it";
 
 impl Told {
     /// Of own bytes that have both ends of the file.
@@ -233,6 +235,7 @@ pub fn header(path: &Path, json: bool) -> Result<(), Failure> {
             object.extend(told);
         }
         put_name(&mut object, "file", path);
+        still_open::put(&mut object, still_open(own.bytes()));
         object
     };
     print::answer(json, || format!("{verdict}\n{}", told.lines()), object)?;

@@ -1,5 +1,5 @@
-//! `refusals`: what each number means, where its place points, who gives it, what causes it and what to try. The sentences are the
-//! library's; docs/REFUSALS.md is written from what this command answers.
+//! `refusals`: what each number means, where its place points, who gives it, what causes it and what to try. The sentences are
+//! the binding's; docs/REFUSALS.md is written from what this command answers.
 
 mod asked;
 mod givers;
@@ -8,7 +8,7 @@ mod texts;
 
 use crate::failure::Failure;
 use crate::print;
-use anhkhovet::Refusal;
+use anhkhovet::{Counted, Refusal};
 use givers::{CALLS, COMMANDS};
 use serde_json::{json, Value};
 
@@ -49,6 +49,14 @@ fn all() -> Vec<&'static Rule> {
     rules
 }
 
+/// The places for which a sentence is, from that of a refusal on.
+fn places(refusal: Refusal) -> String {
+    match refusal.counted() {
+        Counted::Line => format!("{} and up", refusal.place),
+        _ => refusal.place.to_string(),
+    }
+}
+
 /// The rule of a number, as a word of the command line.
 pub fn of_word(word: &str) -> Result<u64, String> {
     let numbers = all().into_iter().map(|rule| rule.number);
@@ -58,14 +66,15 @@ pub fn of_word(word: &str) -> Result<u64, String> {
 }
 
 impl Rule {
-    /// The library's sentences with the first place that each is for; most numbers have one.
-    fn sentences(&self) -> Vec<(u64, &'static str)> {
+    /// The binding's sentences with the places that each is for; most numbers have one sentence.
+    fn sentences(&self) -> Vec<(String, &'static str)> {
         let number = self.number;
         if number == TOO_MUCH_INPUT.0 {
-            return vec![(0, TOO_MUCH_INPUT.1)];
+            return vec![(String::new(), TOO_MUCH_INPUT.1)];
         }
-        let all = (0..=PLACES).map(|place| (place, Refusal { number, place }.sentence()));
-        let mut sentences: Vec<(u64, &str)> = all.collect();
+        let refusals = (0..=PLACES).map(|place| Refusal { number, place });
+        let told = refusals.map(|refusal| (places(refusal), refusal.sentence()));
+        let mut sentences: Vec<(String, &str)> = told.collect();
         sentences.dedup_by_key(|(_, sentence)| *sentence);
         sentences
     }

@@ -1,5 +1,5 @@
-//! `refusals`: one source for what is told of each number. docs/REFUSALS.md is written from it (with ANHKHOVET_WRITE set), and it is held
-//! to the library's definitions, to the stored answers of every call and to the tool's transcripts.
+//! `refusals`: one source for what is told of each number. docs/REFUSALS.md is written from it (with ANHKHOVET_WRITE set), and it is
+//! held to the library's definitions, to the stored answers of every call and to the tool's transcripts.
 
 mod common;
 #[path = "common/page.rs"]
@@ -186,7 +186,7 @@ fn each_command_is_there() {
     );
 }
 
-/// The refusals that transcripts show are among those of their command. `mend` tells what single entries would be refused for too.
+/// The refusals that transcripts show are among those of their command. `mend` also tells what entries would be refused for.
 #[test]
 fn each_command_gives_what_its_transcripts_show() {
     let told = told();

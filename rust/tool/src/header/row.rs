@@ -74,8 +74,11 @@ impl Row {
         [at, size, self.shown(), said]
     }
 
+    /// What is broken comes first, beside the field.
     fn rules(&self) -> Vec<String> {
-        let asked = self.asked.iter().map(Asked::words);
+        let mut asked: Vec<&Asked> = self.asked.iter().collect();
+        asked.sort_by_key(|asked| asked.met);
+        let asked = asked.into_iter().map(Asked::words);
         let note = Some(self.note).filter(|note| !note.is_empty());
         asked.chain(note.map(str::to_string)).collect()
     }

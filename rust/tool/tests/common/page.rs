@@ -8,14 +8,14 @@ const WIDTH: usize = 128;
 const START: &str = "\
 # Refusals
 
-A call of the library, and so a command of the tool, either answers or refuses. A refusal is a **number**, which says which rule is
-broken, and a **place**, which says where. The tool adds a sentence: `refused 9 at grain 1: the grain runs past the end of the file`.
-This page has for each number what is asked of the bytes, where the place points, who gives it, what usually causes it and what to try.
-docs/FORMAT.md has the words and the layout.
+A call of the library, and so a command of the tool, either answers or refuses. A refusal is a **number**, which says which
+rule is broken, and a **place**, which says where. The tool adds a sentence:
+`refused 9 at grain 1: the grain runs past the end of the file`. This page has for each number what is asked of the bytes,
+where the place points, who gives it, what usually causes it and what to try. docs/FORMAT.md has the words and the layout.
 
-`anhkhovet refusals` lists the numbers and `anhkhovet refusals 9` says what stands here of one; this page is written from the same
-source, by a test (`rust/tool/tests/refusals.rs`, with ANHKHOVET_WRITE set), which also holds it to the library's definitions. Calls are
-named without the `anhkhovet_` of the C face. Numbers that are missing here are given by nothing.
+`anhkhovet refusals` lists the numbers, and `anhkhovet refusals 9` says what stands here of one: this page is written from what
+that command answers, by a test (`rust/tool/tests/refusals.rs`, with ANHKHOVET_WRITE set), which also holds it to the library's
+definitions. Calls are named without the `anhkhovet_` of the C face. Numbers that are missing here are given by nothing.
 
 Of a chain the layer that was met is named beside the number, and of a disk of several files the extent.
 ";
@@ -23,10 +23,11 @@ Of a chain the layer that was met is named beside the number, and of a disk of s
 const ORDERS: &str = "
 ## The order in which calls ask
 
-The first rule that is broken is told, in this order, each asked of the whole image. So an image that is refused 9 may break 12 too: mend, and ask again.
-Number 43 comes right after 2. Of a descriptor 32 to 34 come line by line, and then 33 for a key that is missing. `collapse` asks 1 to 12
-and 43 of the lower image, then of the upper. `chain` asks 1 to 7 and 43 layer by layer from the top down. `split` gives 43 for a
-VMFSSPARSE line and 45 for a file that is not of its line's type.
+Of several rules that are broken the first in this order is told; each is asked of the whole image before the next. So an image
+that is refused 9 may break 12 too: once it is mended, ask again. 43 comes right after 2, before a COWD header is read any
+further. Of a text 32 to 34 come line by line, then 33 for a key that is missing. `collapse` asks 1 to 12 and 43 of the lower
+image, then of the upper. `chain` asks 1 to 7 and 43 of each layer from the top down. `split` gives 43 for a VMFSSPARSE line, and
+45 for a file that is not of its line's type.
 
 | call | numbers, in their order |
 |---|---|
@@ -61,7 +62,14 @@ fn text<'a>(row: &'a Value, key: &str) -> &'a str {
 }
 
 fn section(row: &Value) -> String {
-    let mut section = format!("\n## {}: {}\n\n", row["number"], text(row, "sentence"));
+    let (title, rest) = text(row, "sentence")
+        .split_once(": ")
+        .unwrap_or((text(row, "sentence"), ""));
+    let mut section = format!("\n## {}: {title}\n\n", row["number"]);
+    if !rest.is_empty() {
+        let (first, others) = rest.split_at(1);
+        section += &(wrapped(&format!("{}{others}.", first.to_uppercase()), "") + "\n");
+    }
     for by_place in list(&row["by_place"]) {
         section += &format!(
             "- place {}: {}\n",
@@ -86,7 +94,7 @@ fn section(row: &Value) -> String {
     ];
     parts
         .iter()
-        .for_each(|(title, text)| section += &wrapped(&format!("- **{title}:** {text}")));
+        .for_each(|(title, text)| section += &wrapped(&format!("- **{title}:** {text}"), "  "));
     section
 }
 
@@ -127,17 +135,17 @@ fn runs(numbers: &[u64]) -> String {
     told.collect::<Vec<_>>().join(", ")
 }
 
-/// An item of a list, its further lines indented.
-fn wrapped(item: &str) -> String {
+/// A paragraph, its further lines indented.
+fn wrapped(paragraph: &str, indent: &str) -> String {
     let mut lines = String::new();
     let mut line = String::new();
-    for word in item.split(' ') {
+    for word in paragraph.split(' ') {
         if line.chars().count() + 1 + word.chars().count() > WIDTH {
-            lines += &format!("{line}\n");
-            line = " ".to_string();
+            lines += &format!("{}\n", line.trim_end());
+            line = indent.to_string();
         }
-        line += if line.is_empty() { "" } else { " " };
         line += word;
+        line += " ";
     }
-    lines + &line + "\n"
+    lines + line.trim_end() + "\n"
 }
