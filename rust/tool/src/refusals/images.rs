@@ -78,8 +78,7 @@ pub const RULES: &[Rule] = &[
                directory, redundant directory and each table that an entry in use of the two names lie in the file: \
                first sector + sectors is at most F, the file's length / 512 rounded down. A lookup asks for the \
                directory and the sector's own table alone.",
-        place: "The part: 1 the descriptor, 2 the directory, 3 the redundant directory, 4 a primary table, 5 a \
-                redundant table; the lowest that applies. A lookup gives 2 and 4 alone.",
+        place: "The part, by the numbers above; the lowest that applies. A lookup gives 2 and 4 alone.",
         cause: "A file that was cut short, or a damaged header or directory.",
         advice: "Compare the file's length with that of the original, and copy it again. Where the part is 1, 3 or \
                  5, `sector`, `read`, `map` and `digest` answer all the same.",
