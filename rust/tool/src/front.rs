@@ -35,7 +35,7 @@ pub struct Front {
 }
 
 /// A quotient, rounded up.
-pub fn up(number: u64, by: u64) -> u64 {
+fn up(number: u64, by: u64) -> u64 {
     (number + by - 1) / by
 }
 

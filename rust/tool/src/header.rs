@@ -9,7 +9,6 @@ mod tests;
 
 use crate::failure::{self, Failure, Status};
 use crate::frame::ends;
-use crate::front::up;
 use crate::hint::hinted;
 use crate::layer::Layer;
 use crate::names::{name, put_name};
@@ -197,6 +196,7 @@ fn magic(own: &[u8]) -> Option<Row> {
 /// Grains, entries of the directory, and its sectors.
 fn sums(numbers: &Numbers) -> Vec<(&'static str, u64, String)> {
     let (capacity, size) = (numbers.capacity, numbers.grain_size);
+    let up = |number: u64, by: u64| (number + by - 1) / by;
     let grains = up(capacity, size);
     let entries = up(capacity, 512 * size);
     let sectors = up(4 * entries, SECTOR);
