@@ -114,11 +114,11 @@ fn misused(task: &Task) -> Option<&'static str> {
         Task::Map(files) | Task::Coverage(files) | Task::Digest(files, _) => files,
         Task::Sector(files, _) | Task::Read(files, ..) | Task::Compare(files, _) => files,
         Task::Collapse(files, _) | Task::Move(files, _) => files,
-        Task::Normal(file, _) | Task::Close(file, _) | Task::Header(file) => {
-            std::slice::from_ref(file)
-        }
+        Task::Normal(file, _) | Task::Close(file, _) => std::slice::from_ref(file),
         Task::Mend(asked) => std::slice::from_ref(&asked.file),
-        Task::Describe(..) | Task::Refusals(_) => &[],
+        Task::Describe(..) => &[],
+        Task::Header(file) => std::slice::from_ref(file),
+        Task::Refusals(_) => &[],
     };
     let output = match task {
         Task::Collapse(_, to) | Task::Normal(_, to) => Some(to),

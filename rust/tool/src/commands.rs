@@ -1,6 +1,5 @@
 //! The commands and their words, as clap knows them.
 
-use crate::refusals::of_word;
 use clap::{value_parser, Arg, ArgAction, Command};
 use std::path::PathBuf;
 
@@ -77,7 +76,7 @@ pub fn command() -> Command {
                 .action(ArgAction::SetTrue),
         );
     let command = describing(digesting(reading(judging(command))));
-    telling(closing(moving(mending(writing(command)))))
+    closing(moving(mending(writing(command))))
 }
 
 fn judging(command: Command) -> Command {
@@ -166,8 +165,26 @@ fn writing(command: Command) -> Command {
         )
 }
 
+fn telling(command: Command) -> Command {
+    let refusal = Arg::new("refusal")
+        .value_name("N")
+        .help("The number of a refusal; without it all are listed")
+        .value_parser(crate::refusals::of_word);
+    command
+        .subcommand(
+            subcommand("header")
+                .about("Says of each field of a header what stands there, what it means, and which rule it meets or breaks")
+                .arg(files("The image").num_args(1)),
+        )
+        .subcommand(
+            subcommand("refusals")
+                .about("Says what the numbers of refusals mean, what causes them and what to try")
+                .arg(refusal),
+        )
+}
+
 fn describing(command: Command) -> Command {
-    command.subcommand(
+    telling(command).subcommand(
         subcommand("describe")
             .about("Says what a descriptor says, a file of its own or one inside an image")
             .arg(
@@ -222,22 +239,4 @@ fn closing(command: Command) -> Command {
             .arg(output(IMAGE_OUT, true))
             .arg(force()),
     )
-}
-
-fn telling(command: Command) -> Command {
-    let refusal = Arg::new("refusal")
-        .value_name("N")
-        .help("The number of a refusal; without it all are listed")
-        .value_parser(of_word);
-    command
-        .subcommand(
-            subcommand("header")
-                .about("Says of each field of a header what stands there, what it means, and which rule it meets or breaks")
-                .arg(files("The image").num_args(1)),
-        )
-        .subcommand(
-            subcommand("refusals")
-                .about("Says what the numbers of refusals mean, what causes them and what to try")
-                .arg(refusal),
-        )
 }
