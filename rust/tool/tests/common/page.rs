@@ -73,7 +73,7 @@ fn section(row: &Value) -> String {
     for by_place in list(&row["by_place"]) {
         section += &format!(
             "- place {}: {}\n",
-            by_place["place"],
+            text(by_place, "place"),
             text(by_place, "sentence")
         );
     }
