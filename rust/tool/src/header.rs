@@ -39,8 +39,8 @@ const FOOTER: u64 = 7;
 /// The order in which the library asks.
 const ORDER: [u64; 8] = [TOO_SHORT, MAGIC, COWD_GONE, 3, 4, 5, 6, FOOTER];
 
-const MOVED: &str = "COWD is the older kind of sparse image: `anhkhovet move FILE -o OUT` writes it as KDMV, and no other \
-                     command takes it";
+const MOVED: &str =
+    "COWD is the older kind of sparse image, and no command but `anhkhovet move` takes it";
 
 impl Told {
     /// Of own bytes that have both ends of the file.

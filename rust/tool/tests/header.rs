@@ -215,7 +215,9 @@ fn what_is_no_kdmv_image() {
     assert_eq!(cowd.status, Some(1));
     assert!(
         cowd.text().starts_with("cowd-s001.vmdk: refused 43: ")
-            && cowd.text().contains("`anhkhovet move FILE -o OUT`")
+            && cowd
+                .text()
+                .contains("no command but `anhkhovet move` takes it")
     );
     let text = run(folder.path(), &["header", "two-gb-sparse.vmdk"]);
     assert_eq!(text.status, Some(1));
