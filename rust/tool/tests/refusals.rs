@@ -1,5 +1,5 @@
-//! `refusals`: one source for what is told of each number. docs/REFUSALS.md is written from it (with ANHKHOVET_WRITE set), and it is
-//! held to the library's definitions, to the stored answers of every call and to the tool's transcripts.
+//! `refusals`: one source for what is told of each number. docs/REFUSALS.md is written from it (with ANHKHOVET_WRITE set), and it
+//! is held to the library's definitions, to the stored answers of every call and to the tool's transcripts.
 
 mod common;
 #[path = "common/page.rs"]

@@ -19,7 +19,7 @@ fn seven(met: bool, words: &'static str) -> Asked {
     }
 }
 
-/// The footer's directory sector, all its other bytes, and the last sector; nothing where there is no room for them.
+/// The footer, its directory sector, and the last sector; nothing where there is no room for them.
 pub fn rows(own: &[u8]) -> Vec<Row> {
     let sectors = own.len() as u64 / SECTOR;
     if sectors < LEAST {
@@ -27,43 +27,33 @@ pub fn rows(own: &[u8]) -> Vec<Row> {
     }
     let place = |sector: u64| (sector * SECTOR) as usize..((sector + 1) * SECTOR) as usize;
     let (footer, last) = (&own[place(sectors - 2)], &own[place(sectors - 1)]);
-    let at = (sectors - 2) * SECTOR;
+    let row = |at, bytes: &[u8], name, meaning, asked| Row {
+        at: Some((sectors - 2) * SECTOR + at),
+        bytes: bytes.to_vec(),
+        name,
+        number: None,
+        meaning,
+        asked: vec![asked],
+        note: "",
+    };
+    let same = differing(own, footer).is_empty();
+    let same = seven(same, "as sector 0 but for bytes 56 to 63");
+    let zero = seven(last.iter().all(|byte| *byte == 0), "all zero");
     let directory = number(footer, 56, 8);
+    let told = match directory {
+        AT_END => "all ones".to_string(),
+        sector => sector.to_string(),
+    };
+    let once = seven(directory != AT_END, "not all ones again");
+    let name = "footer's directory sector";
+    let field = row(56, &footer[DIRECTORY], name, told, once);
     vec![
+        row(0, footer, "footer", differences(own, footer), same),
         Row {
-            at: Some(at),
-            bytes: footer.to_vec(),
-            name: "footer",
-            number: None,
-            meaning: told(&own[..SECTOR as usize], footer),
-            asked: vec![seven(
-                differing(own, footer).is_empty(),
-                "as sector 0 but for bytes 56 to 63",
-            )],
-            note: "",
-        },
-        Row {
-            at: Some(at + DIRECTORY.start as u64),
-            bytes: footer[DIRECTORY].to_vec(),
-            name: "footer's directory sector",
             number: Some(directory),
-            meaning: if directory == AT_END {
-                "all ones".to_string()
-            } else {
-                directory.to_string()
-            },
-            asked: vec![seven(directory != AT_END, "not all ones again")],
-            note: "",
+            ..field
         },
-        Row {
-            at: Some(at + SECTOR),
-            bytes: last.to_vec(),
-            name: "last sector",
-            number: None,
-            meaning: zeros(last),
-            asked: vec![seven(last.iter().all(|byte| *byte == 0), "all zero")],
-            note: "",
-        },
+        row(SECTOR, last, "last sector", zeros(last), zero),
     ]
 }
 
@@ -73,7 +63,7 @@ fn differing(header: &[u8], footer: &[u8]) -> Vec<usize> {
     (0..footer.len()).filter(differs).collect()
 }
 
-fn told(header: &[u8], footer: &[u8]) -> String {
+fn differences(header: &[u8], footer: &[u8]) -> String {
     match differing(header, footer)[..] {
         [] => "sector 0 again, but for the next field".to_string(),
         [at] => format!(

@@ -67,8 +67,8 @@ impl Numbers {
         capacity_met(self.capacity) && grain_size_met(self.grain_size)
     }
 
-    /// Whether compression, where it is 0 or 1, is what its flag says. Where it is not, both fields are marked: nothing tells which
-    /// one is wrong.
+    /// Whether compression, where it is 0 or 1, is what its flag says. Where it is not both fields are marked: nothing tells
+    /// which one is wrong.
     fn fits(&self) -> bool {
         self.compression > 1 || self.has(PACKED) == (self.compression == 1)
     }

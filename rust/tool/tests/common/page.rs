@@ -26,8 +26,8 @@ const ORDERS: &str = "
 Of several rules that are broken the first in this order is told; each is asked of the whole image before the next. So an image
 that is refused 9 may break 12 too: once it is mended, ask again. 43 comes right after 2, before a COWD header is read any
 further. Of a text 32 to 34 come line by line, then 33 for a key that is missing. `collapse` asks 1 to 12 and 43 of the lower
-image, then of the upper. `chain` asks 1 to 7 and 43 of each layer from the top down. `split` gives 43 for a VMFSSPARSE line, and
-45 for a file that is not of its line's type.
+image, then of the upper. `chain` asks 1 to 7 and 43 of each layer from the top down. `split` gives 43 for a VMFSSPARSE line,
+and 45 for a file that is not of its line's type.
 
 | call | numbers, in their order |
 |---|---|
