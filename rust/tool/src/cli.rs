@@ -35,6 +35,9 @@ pub enum Task {
     Move(Vec<PathBuf>, Target),
     Close(PathBuf, Target),
     Describe(PathBuf, Option<u64>),
+    Header(PathBuf),
+    /// Of one number, or of all.
+    Refusals(Option<u64>),
 }
 
 /// Why there is no task: help that was asked for, or words that are wrong.
@@ -50,6 +53,9 @@ const IMAGE_TO_OUTPUT: &str =
     "an image is written here and there, so it cannot go to `-`, standard output; a file of that name is ./-";
 
 fn task(name: &str, given: &ArgMatches) -> Option<Task> {
+    if name == "refusals" {
+        return Some(Task::Refusals(given.get_one("refusal").copied()));
+    }
     let files: Vec<PathBuf> = given.get_many("files")?.cloned().collect();
     let sector = || given.get_one::<u64>("sector").copied();
     let target = || {
@@ -91,6 +97,7 @@ fn task(name: &str, given: &ArgMatches) -> Option<Task> {
         "move" => Task::Move(files, target()?),
         "close" => Task::Close(files.into_iter().next()?, target()?),
         "describe" => Task::Describe(files.into_iter().next()?, sector()),
+        "header" => Task::Header(files.into_iter().next()?),
         _ => return None,
     })
 }
@@ -110,6 +117,8 @@ fn misused(task: &Task) -> Option<&'static str> {
         Task::Normal(file, _) | Task::Close(file, _) => std::slice::from_ref(file),
         Task::Mend(asked) => std::slice::from_ref(&asked.file),
         Task::Describe(..) => &[],
+        Task::Header(file) => std::slice::from_ref(file),
+        Task::Refusals(_) => &[],
     };
     let output = match task {
         Task::Collapse(_, to) | Task::Normal(_, to) => Some(to),

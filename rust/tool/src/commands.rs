@@ -165,8 +165,26 @@ fn writing(command: Command) -> Command {
         )
 }
 
+fn telling(command: Command) -> Command {
+    let refusal = Arg::new("refusal")
+        .value_name("N")
+        .help("The number of a refusal; without it all are listed")
+        .value_parser(crate::refusals::of_word);
+    command
+        .subcommand(
+            subcommand("header")
+                .about("Says of each field of a header what stands there, what it means, and which rule it meets or breaks")
+                .arg(files("The image").num_args(1)),
+        )
+        .subcommand(
+            subcommand("refusals")
+                .about("Says what the numbers of refusals mean, what causes them and what to try")
+                .arg(refusal),
+        )
+}
+
 fn describing(command: Command) -> Command {
-    command.subcommand(
+    telling(command).subcommand(
         subcommand("describe")
             .about("Says what a descriptor says, a file of its own or one inside an image")
             .arg(

@@ -5,7 +5,7 @@ use anhkhovet::{Disk, SECTOR};
 use std::ops::Range;
 
 /// The header's fields: where each ends, and what it is.
-const FIELDS: [(u64, &str); 15] = [
+pub const FIELDS: [(u64, &str); 15] = [
     (4, "magic"),
     (8, "version"),
     (12, "flags"),

@@ -30,6 +30,7 @@ mod given;
 mod grains;
 mod guard;
 mod hash;
+mod header;
 mod held;
 mod hint;
 mod json;
@@ -53,6 +54,7 @@ mod place;
 mod print;
 mod profile;
 mod progress;
+mod refusals;
 mod reports;
 mod room;
 mod sector;
@@ -92,6 +94,8 @@ fn run(task: Task, json: bool) -> Result<(), Failure> {
         Task::Move(files, target) => moves::run(&files, &target, json),
         Task::Close(file, target) => close::close(&file, &target, json),
         Task::Describe(file, sector) => describe::describe(&file, sector, json),
+        Task::Header(file) => header::header(&file, json),
+        Task::Refusals(number) => refusals::refusals(number, json),
     }
 }
 

@@ -40,7 +40,7 @@ pub struct Kept {
 }
 
 /// A number of own bytes; past their end it is 0.
-fn number(own: &[u8], at: u64, length: usize) -> u64 {
+pub fn number(own: &[u8], at: u64, length: usize) -> u64 {
     let at = usize::try_from(at).unwrap_or(usize::MAX);
     let bytes = own.get(at..at.saturating_add(length)).unwrap_or(&[]);
     let add = |value: u64, byte: &u8| value << 8 | u64::from(*byte);
