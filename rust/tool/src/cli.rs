@@ -34,6 +34,7 @@ pub enum Task {
     Mend(mend::Asked),
     Move(Vec<PathBuf>, Target),
     Close(PathBuf, Target),
+    Picture(Vec<PathBuf>, Target),
     Describe(PathBuf, Option<u64>),
 }
 
@@ -90,6 +91,7 @@ fn task(name: &str, given: &ArgMatches) -> Option<Task> {
         }),
         "move" => Task::Move(files, target()?),
         "close" => Task::Close(files.into_iter().next()?, target()?),
+        "picture" => Task::Picture(files, target()?),
         "describe" => Task::Describe(files.into_iter().next()?, sector()),
         _ => return None,
     })
@@ -106,14 +108,14 @@ fn misused(task: &Task) -> Option<&'static str> {
         Task::Check(files) | Task::Profile(files) | Task::Survey(files) => files,
         Task::Map(files) | Task::Coverage(files) | Task::Digest(files, _) => files,
         Task::Sector(files, _) | Task::Read(files, ..) | Task::Compare(files, _) => files,
-        Task::Collapse(files, _) | Task::Move(files, _) => files,
+        Task::Collapse(files, _) | Task::Move(files, _) | Task::Picture(files, _) => files,
         Task::Normal(file, _) | Task::Close(file, _) => std::slice::from_ref(file),
         Task::Mend(asked) => std::slice::from_ref(&asked.file),
         Task::Describe(..) => &[],
     };
     let output = match task {
         Task::Collapse(_, to) | Task::Normal(_, to) => Some(to),
-        Task::Move(_, to) | Task::Close(_, to) => Some(to),
+        Task::Move(_, to) | Task::Close(_, to) | Task::Picture(_, to) => Some(to),
         Task::Mend(asked) => asked.target.as_ref(),
         _ => None,
     };

@@ -48,6 +48,7 @@ mod named;
 mod names;
 mod output;
 mod own;
+mod picture;
 mod place;
 mod print;
 mod profile;
@@ -90,6 +91,7 @@ fn run(task: Task, json: bool) -> Result<(), Failure> {
         Task::Mend(asked) => mend::mend(&asked, json),
         Task::Move(files, target) => moves::run(&files, &target, json),
         Task::Close(file, target) => close::close(&file, &target, json),
+        Task::Picture(files, target) => picture::picture(&files, &target, json),
         Task::Describe(file, sector) => describe::describe(&file, sector, json),
     }
 }
