@@ -50,6 +50,9 @@ const IMAGE_FROM_INPUT: &str =
 const IMAGE_TO_OUTPUT: &str =
     "an image is written here and there, so it cannot go to `-`, standard output; a file of that name is ./-";
 
+const PICTURE_TO_OUTPUT: &str =
+    "a picture is a file that appears when it is whole, so it cannot go to `-`, standard output; a file of that name is ./-";
+
 fn task(name: &str, given: &ArgMatches) -> Option<Task> {
     let files: Vec<PathBuf> = given.get_many("files")?.cloned().collect();
     let sector = || given.get_one::<u64>("sector").copied();
@@ -123,7 +126,11 @@ fn misused(task: &Task) -> Option<&'static str> {
         return Some(IMAGE_FROM_INPUT);
     }
     let unfit = output.map_or(false, |to| stream(&to.path));
-    unfit.then_some(IMAGE_TO_OUTPUT)
+    let why = match task {
+        Task::Picture(..) => PICTURE_TO_OUTPUT,
+        _ => IMAGE_TO_OUTPUT,
+    };
+    unfit.then_some(why)
 }
 
 fn asked(words: &[OsString]) -> Result<(Task, bool), clap::Error> {

@@ -3,9 +3,8 @@
 
 use super::kind::Kind;
 use super::numbers::counted;
-use super::paint::RED;
 use super::part::Part;
-use super::scale::Scale;
+use super::scale::{stretches, Scale};
 use super::svg::Svg;
 
 /// Of a word's height, and about that of a letter's width.
@@ -32,11 +31,8 @@ pub fn width(text: &str) -> f64 {
 pub fn labels(parts: &[Part], scale: &Scale) -> Vec<Label> {
     let mut labels = Vec::new();
     let mut named = Vec::new();
-    let mut first = 0;
-    while first < parts.len() {
+    for (first, end) in stretches(parts) {
         let kind = parts[first].main();
-        let alike = parts[first..].iter().take_while(|part| part.main() == kind);
-        let end = first + alike.count();
         let often = named.iter().filter(|known| **known == kind).count();
         let wrong = matches!(kind, Kind::Shared | Kind::Refused);
         if kind.is_frame() && often == 0 || wrong && often < WRONG {
@@ -49,7 +45,6 @@ pub fn labels(parts: &[Part], scale: &Scale) -> Vec<Label> {
                 row: 0,
             });
         }
-        first = end;
     }
     placed(labels)
 }
@@ -96,10 +91,10 @@ pub fn draw(svg: &mut Svg, labels: &[Label], y: f64) {
             r##" stroke="#444" stroke-width=".8""##,
         );
         let look = match (wrong, text.as_str() == Kind::Shared.word()) {
-            (true, true) => format!(r#" class="wrong" fill="{RED}""#),
-            (true, false) => r#" class="wrong""#.to_string(),
-            (false, _) => String::new(),
+            (true, true) => r#" class="wrong red""#,
+            (true, false) => r#" class="wrong""#,
+            (false, _) => "",
         };
-        svg.text(x + 4.0, base, &look, text);
+        svg.text(x + 4.0, base, look, text);
     }
 }

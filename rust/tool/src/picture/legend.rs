@@ -32,9 +32,9 @@ fn words(kind: Kind) -> &'static str {
         Kind::Stored => "stored grain: the later on the disk, the darker",
         Kind::Packed => "packed grain: the later, the darker",
         Kind::Zero => "zero: it reads as zeros, and takes no room",
-        Kind::Absent => "absent: its parent is asked",
+        Kind::Absent => "absent: not in this file, so a parent is asked",
         Kind::Refused => "refused: there is no answer for it",
-        Kind::Shared => "in two areas: one of them is damaged",
+        Kind::Shared => "in two areas, which the rules forbid",
         Kind::Nothing => "nothing holds these sectors",
     }
 }
@@ -106,10 +106,10 @@ fn notes(picture: &Picture) -> Vec<String> {
     ];
     let together = picture.parts().filter(|part| part.together).count() as u64;
     if together > 0 {
+        let all = counted(picture.parts().count() as u64, "part", "parts");
         notes.push(format!(
-            "{} of {} put together from smaller ones, and drawn as high as the share at which something stands.",
-            counted(together, "part is", "parts are").replace(" part is", "").replace(" parts are", ""),
-            counted(picture.parts().count() as u64, "part is", "parts are"),
+            "Of {all} {} put together from smaller ones; such a part is as high as the share of its sectors at which something stands.",
+            counted(together, "is", "are"),
         ));
     }
     notes

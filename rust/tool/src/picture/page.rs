@@ -1,6 +1,5 @@
 //! The whole picture: the files, the disk below them, and the legend.
 
-use super::kind::Kind;
 use super::labels;
 use super::legend;
 use super::numbers::{counted, size};
@@ -26,8 +25,8 @@ const LETTERS: usize = 90;
 const STYLE: &str = "<style>text{font:11px Verdana,'DejaVu Sans',sans-serif;fill:#000}\
     .name{font-size:14px;font-weight:bold}.told{font-size:12px}.heading{font-size:15px;font-weight:bold}\
     .tick{text-anchor:middle;fill:#333;font-size:10px}.on{text-anchor:middle;pointer-events:none;\
-    paint-order:stroke;stroke:#fff;stroke-width:3px;stroke-opacity:.75}.dark{fill:#fff;stroke:none}\
-    .wrong{font-weight:bold}.small{fill:#333;font-size:10px}</style>";
+    paint-order:stroke;stroke:#fff;stroke-width:3px;stroke-opacity:.85}.dark{fill:#fff;stroke:none}\
+    .wrong{font-weight:bold}.red{fill:#c00}.small{fill:#333;font-size:10px}</style>";
 
 /// The picture as markup.
 pub fn page(picture: &Picture) -> String {
@@ -36,7 +35,7 @@ pub fn page(picture: &Picture) -> String {
     for layer in (0..picture.layers.len()).rev() {
         y = file(&mut svg, picture, layer, y);
     }
-    y = disk(&mut svg, picture, y + 10.0);
+    y = disk(&mut svg, picture, y + 8.0);
     let (y, drawn) = legend::draw(svg, picture, y + 8.0);
     let names: Vec<String> = picture
         .layers
@@ -86,16 +85,15 @@ fn file(svg: &mut Svg, picture: &Picture, layer: usize, y: f64) -> f64 {
         r#" class="name""#,
         &format!("{which}{}", shortened(&of.path)),
     );
-    let verdict = of.refused.map_or_else(
-        || "accepted by the check".to_string(),
-        |why| why.to_string(),
-    );
+    let verdict = of
+        .refused
+        .map_or_else(|| "accepted".to_string(), |why| why.to_string());
     let remark = still_open::remark(Some(of.still_open));
     svg.text(
         LEFT,
         y + 29.0,
         r#" class="told""#,
-        &format!("{verdict}{remark}"),
+        &format!("check: {verdict}{remark}"),
     );
 
     let scale = Scale::of_file(parts);
@@ -122,7 +120,7 @@ fn file(svg: &mut Svg, picture: &Picture, layer: usize, y: f64) -> f64 {
     }
     let bottom = top + look.height;
     file_ticks(svg, bottom, parts, &scale);
-    bottom + if count == 1 { 34.0 } else { 26.0 }
+    bottom + 36.0
 }
 
 /// The virtual disk by kind, of a chain layer by layer first. Where it ends.
@@ -147,6 +145,11 @@ fn disk(svg: &mut Svg, picture: &Picture, y: f64) -> f64 {
         svg.text(BESIDE, top + 15.0, "", &format!("layer {layer}"));
         top += 27.0;
     }
+    top += if picture.strips.layers.is_empty() {
+        0.0
+    } else {
+        6.0
+    };
     let parts = &picture.strips.disk;
     let scale = Scale::of_disk(parts);
     let labels = labels::labels(parts, &scale);
@@ -160,7 +163,7 @@ fn disk(svg: &mut Svg, picture: &Picture, y: f64) -> f64 {
     labels::draw(svg, &labels, top);
     draw(svg, look, parts, &scale);
     svg.text(BESIDE, top + 17.0, "", "the disk");
-    if parts.iter().any(|part| part.of(Kind::Refused) == 0) && picture.layers.len() > 1 {
+    if picture.layers.len() > 1 {
         svg.text(BESIDE, top + 31.0, "", "as it is read");
     }
     disk_ticks(svg, top + look.height, capacity, grain_size);

@@ -5,16 +5,14 @@ use super::part::Part;
 
 /// The colours of grains from the disk's first to its last, evenly apart: the later, the darker.
 const RAMP: [[u64; 3]; 4] = [
-    [0xe3, 0xf2, 0xfc],
-    [0x8c, 0xcb, 0xf0],
+    [0xc4, 0xe4, 0xf9],
+    [0x7d, 0xc1, 0xec],
     [0x2b, 0x8c, 0xc4],
     [0x05, 0x3e, 0x66],
 ];
 
 /// From this place on a grain is dark: what is written on it is white.
 const DARK: u64 = 560;
-
-pub const RED: &str = "#cc0000";
 
 /// The pattern of a kind: its name, its ground, and what is drawn on each square of 6 by 6.
 type Pattern = (&'static str, &'static str, &'static str);
@@ -68,7 +66,7 @@ const PATTERNS: [Pattern; 12] = [
     ),
     (
         "shared",
-        RED,
+        "#c00",
         r##"<path d="M0 0L6 6M6 0L0 6" stroke="#fff" stroke-width=".8"/>"##,
     ),
     (

@@ -1,6 +1,6 @@
 //! A list of parts that stays short: neighbours are put together where there are more than a bound, and nothing of them is lost.
 //!
-//! The sectors are cut into cells, and parts that begin in one cell become one. Cells grow until there are few enough parts. What a
+//! Neighbours become one where they are no longer together than a cell, and the cell grows until there are few enough parts. What a
 //! file has once, its header and the like, is put together last, so that it is seen as long as possible.
 
 use super::kind::Kind;
@@ -16,8 +16,8 @@ enum Joined {
     All,
 }
 
-/// At least as many cells as a quarter of the bound are kept, before more kinds are put together.
-const COARSEST: u64 = 4;
+/// A cell is at most so many times as long as the bound asks for, before more kinds are put together.
+const COARSEST: u64 = 8;
 
 pub struct Parts {
     list: Vec<Part>,
@@ -40,7 +40,7 @@ impl Parts {
         }
     }
 
-    /// Sectors that are going to be put together anyway.
+    /// So many sectors are going to be put together anyway.
     pub fn cell(&self) -> u64 {
         self.cell
     }
@@ -66,7 +66,7 @@ impl Parts {
             if last.goes_on(&part) {
                 return last.join(&part);
             }
-            if last.first / cell == part.first / cell && alike(last, &part, joined) {
+            if part.end() - last.first <= cell && alike(last, &part, joined) {
                 last.join(&part);
                 last.together = true;
                 return;

@@ -11,7 +11,10 @@ use super::titles::{title, Strip};
 
 /// What is there is drawn at least so high and so wide, however small its share.
 const LOW: f64 = 5.0;
-const THIN: f64 = 1.2;
+const THIN: f64 = 2.0;
+
+/// A part goes on below the next one, so that no seam is seen between them.
+const BELOW: f64 = 1.0;
 
 /// Narrower parts have no edge of their own: it would be all that is seen.
 const EDGED: f64 = 4.0;
@@ -31,7 +34,11 @@ pub fn draw(svg: &mut Svg, look: Look, parts: &[Part], scale: &Scale) {
     for empty in [true, false] {
         for (number, part) in parts.iter().enumerate() {
             if part.main().is_empty() == empty {
-                draw_part(svg, look, part, scale.place(number));
+                let (x, wide) = scale.place(number);
+                let covered = parts
+                    .get(number + 1)
+                    .map_or(false, |next| !next.main().is_empty());
+                draw_part(svg, look, part, x, wide + if covered { BELOW } else { 0.0 });
             }
         }
     }
@@ -50,11 +57,12 @@ pub fn draw(svg: &mut Svg, look: Look, parts: &[Part], scale: &Scale) {
     }
 }
 
-fn draw_part(svg: &mut Svg, look: Look, part: &Part, (x, wide): (f64, f64)) {
+fn draw_part(svg: &mut Svg, look: Look, part: &Part, x: f64, wide: f64) {
+    let width = wide.max(THIN);
     let whole = Rectangle {
-        x,
+        x: x.min(LEFT + LONG - width),
         y: look.y,
-        width: wide.max(THIN),
+        width,
         height: look.height,
     };
     let wrong = matches!(part.main(), Kind::Shared | Kind::Refused);
