@@ -77,7 +77,7 @@ const PATTERNS: [Pattern; 12] = [
 ];
 
 /// Over what a layer above hides: most of it is veiled.
-const VEIL: &str = r##"<pattern id="hidden" width="8" height="8" patternUnits="userSpaceOnUse"><rect width="8" height="8" fill="#fff" fill-opacity=".72"/><path d="M-1 7L1 9M0 0L8 8M7 -1L9 1" stroke="#777" stroke-width=".8"/></pattern>"##;
+const VEIL: &str = r##"<pattern id="hidden" width="8" height="8" patternUnits="userSpaceOnUse"><rect width="8" height="8" fill="#fff" fill-opacity=".72"/><path d="M-1 7L1 9M0 0L8 8M7 -1L9 1" stroke="#999" stroke-width=".7"/></pattern>"##;
 
 fn hex(colour: [u64; 3]) -> String {
     let [red, green, blue] = colour;
