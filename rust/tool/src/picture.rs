@@ -8,6 +8,7 @@ mod page;
 mod paint;
 mod part;
 mod parts;
+mod row;
 mod scale;
 mod span;
 mod strip;
@@ -71,7 +72,8 @@ impl Picture {
     }
 }
 
-/// Judges each layer, base first. One that is refused 9 to 12 has a frame and lookups all the same: there a picture is needed most.
+/// Judges each layer, base first. One that is refused 9 to 12 has a frame and lookups all the same: there a picture is needed
+/// most.
 fn judged(layers: &mut Layers) -> Result<Vec<(Drawn, Vec<Area>)>, Failure> {
     let _progress = Progress::start("checking", 0);
     let count = layers.count() as u64;

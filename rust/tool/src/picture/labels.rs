@@ -1,5 +1,5 @@
-//! Words above a strip, each with a line down to its part. They stand like stairs: what is further left stands higher, so that no
-//! line crosses a word.
+//! Words above a strip, each with a line down to its part. They stand like stairs: what is further left stands higher, so that
+//! no line crosses a word.
 
 use super::kind::Kind;
 use super::numbers::counted;

@@ -101,14 +101,13 @@ pub fn draw(mut svg: Svg, picture: &Picture, y: f64) -> (f64, Svg) {
 fn notes(picture: &Picture) -> Vec<String> {
     let mut notes = vec![
         "Point at a part to see what it is. Numbers below strips are sectors of 512 bytes.".to_string(),
-        "The disk is drawn to scale. Of a file each part is given some width, so that small ones are seen; the rest is to scale."
-            .to_string(),
+        "The disk is drawn to scale. In a file small parts are drawn wider than they are, so that they are seen.".to_string(),
     ];
     let together = picture.parts().filter(|part| part.together).count() as u64;
     if together > 0 {
         let all = counted(picture.parts().count() as u64, "part", "parts");
         notes.push(format!(
-            "Of {all} {} put together from smaller ones; such a part is as high as the share of its sectors at which something stands.",
+            "Of {all} {} put together from smaller ones, and drawn as high as the share of their sectors that are in use.",
             counted(together, "is", "are"),
         ));
     }

@@ -25,7 +25,7 @@ const LETTERS: usize = 90;
 const STYLE: &str = "<style>text{font:11px Verdana,'DejaVu Sans',sans-serif;fill:#000}\
     .name{font-size:14px;font-weight:bold}.told{font-size:12px}.heading{font-size:15px;font-weight:bold}\
     .tick{text-anchor:middle;fill:#333;font-size:10px}.on{text-anchor:middle;pointer-events:none;\
-    paint-order:stroke;stroke:#fff;stroke-width:3px;stroke-opacity:.85}.dark{fill:#fff;stroke:none}\
+    paint-order:stroke;stroke:#fff;stroke-width:4px;stroke-opacity:.9}.dark{fill:#fff;stroke:none}\
     .wrong{font-weight:bold}.red{fill:#c00}.small{fill:#333;font-size:10px}</style>";
 
 /// The picture as markup.
@@ -69,33 +69,31 @@ fn shortened(path: &Path) -> String {
     )
 }
 
-/// A layer's name and verdict, and its file as a strip. Where it ends.
-fn file(svg: &mut Svg, picture: &Picture, layer: usize, y: f64) -> f64 {
-    let (of, parts) = (&picture.layers[layer], &picture.strips.files[layer]);
-    let count = picture.layers.len();
+/// A layer's name, and what the check says of it.
+fn verdict(svg: &mut Svg, picture: &Picture, layer: usize, y: f64) {
+    let of = &picture.layers[layer];
     let which = match layer {
-        _ if count == 1 => String::new(),
+        _ if picture.layers.len() == 1 => String::new(),
         0 => "layer 0, the base: ".to_string(),
-        layer if layer + 1 == count => format!("layer {layer}, the top: "),
+        layer if layer + 1 == picture.layers.len() => format!("layer {layer}, the top: "),
         layer => format!("layer {layer}: "),
     };
-    svg.text(
-        LEFT,
-        y + 12.0,
-        r#" class="name""#,
-        &format!("{which}{}", shortened(&of.path)),
-    );
-    let verdict = of
-        .refused
-        .map_or_else(|| "accepted".to_string(), |why| why.to_string());
+    let named = format!("{which}{}", shortened(&of.path));
+    svg.text(LEFT, y + 12.0, r#" class="name""#, &named);
+    let verdict = match of.refused {
+        Some(why) => why.to_string(),
+        None => "accepted".to_string(),
+    };
     let remark = still_open::remark(Some(of.still_open));
-    svg.text(
-        LEFT,
-        y + 29.0,
-        r#" class="told""#,
-        &format!("check: {verdict}{remark}"),
-    );
+    let told = format!("check: {verdict}{remark}");
+    svg.text(LEFT, y + 29.0, r#" class="told""#, &told);
+}
 
+/// A layer's file as a strip. Where it ends.
+fn file(svg: &mut Svg, picture: &Picture, layer: usize, y: f64) -> f64 {
+    verdict(svg, picture, layer, y);
+    let (of, parts) = (&picture.layers[layer], &picture.strips.files[layer]);
+    let alone = picture.layers.len() == 1;
     let scale = Scale::of_file(parts);
     let labels = labels::labels(parts, &scale);
     let top = y + 40.0 + labels::height(&labels);
@@ -103,24 +101,41 @@ fn file(svg: &mut Svg, picture: &Picture, layer: usize, y: f64) -> f64 {
         grains: picture.grains(),
         strip: Strip::File,
         y: top,
-        height: if count == 1 { 48.0 } else { 34.0 },
+        height: if alone { 48.0 } else { 34.0 },
     };
     labels::draw(svg, &labels, top);
     draw(svg, look, parts, &scale);
     let sectors = counted(of.sectors, "sector", "sectors");
     svg.text(BESIDE, top + 14.0, "", "the file:");
     svg.text(BESIDE, top + 28.0, "", &sectors);
-    if count == 1 {
-        svg.text(
-            BESIDE,
-            top + 42.0,
-            "",
-            &size(of.sectors * SECTOR + of.bytes_past),
-        );
+    if alone {
+        let bytes = of.sectors * SECTOR + of.bytes_past;
+        svg.text(BESIDE, top + 42.0, "", &size(bytes));
     }
     let bottom = top + look.height;
     file_ticks(svg, bottom, parts, &scale);
     bottom + 36.0
+}
+
+/// What each layer of a chain has of the disk, the top one first. Where that ends.
+fn layers(svg: &mut Svg, picture: &Picture, mut y: f64) -> f64 {
+    let layers = &picture.strips.layers;
+    for (layer, parts) in layers.iter().enumerate().rev() {
+        let look = Look {
+            grains: picture.grains(),
+            strip: Strip::Layer,
+            y,
+            height: 22.0,
+        };
+        draw(svg, look, parts, &Scale::of_disk(parts));
+        svg.text(BESIDE, y + 15.0, "", &format!("layer {layer}"));
+        y += 27.0;
+    }
+    if layers.is_empty() {
+        y
+    } else {
+        y + 6.0
+    }
 }
 
 /// The virtual disk by kind, of a chain layer by layer first. Where it ends.
@@ -133,27 +148,11 @@ fn disk(svg: &mut Svg, picture: &Picture, y: f64) -> f64 {
         counted(picture.grains(), "grain", "grains"),
     );
     svg.text(LEFT, y + 12.0, r#" class="heading""#, &heading);
-    let mut top = y + 24.0;
-    for (layer, parts) in picture.strips.layers.iter().enumerate().rev() {
-        let look = Look {
-            grains: picture.grains(),
-            strip: Strip::Layer,
-            y: top,
-            height: 22.0,
-        };
-        draw(svg, look, parts, &Scale::of_disk(parts));
-        svg.text(BESIDE, top + 15.0, "", &format!("layer {layer}"));
-        top += 27.0;
-    }
-    top += if picture.strips.layers.is_empty() {
-        0.0
-    } else {
-        6.0
-    };
+    let y = layers(svg, picture, y + 24.0);
     let parts = &picture.strips.disk;
     let scale = Scale::of_disk(parts);
     let labels = labels::labels(parts, &scale);
-    top += labels::height(&labels);
+    let top = y + labels::height(&labels);
     let look = Look {
         grains: picture.grains(),
         strip: Strip::Disk,

@@ -77,7 +77,11 @@ const PATTERNS: [Pattern; 12] = [
 ];
 
 /// Over what a layer above hides: most of it is veiled.
-const VEIL: &str = r##"<pattern id="hidden" width="8" height="8" patternUnits="userSpaceOnUse"><rect width="8" height="8" fill="#fff" fill-opacity=".72"/><path d="M-1 7L1 9M0 0L8 8M7 -1L9 1" stroke="#999" stroke-width=".7"/></pattern>"##;
+const VEIL: Pattern = (
+    "hidden",
+    r##"#fff" fill-opacity=".72"##,
+    r##"<path d="M-1 5L1 7M0 0L6 6M5 -1L7 1" stroke="#999" stroke-width=".6"/>"##,
+);
 
 fn hex(colour: [u64; 3]) -> String {
     let [red, green, blue] = colour;
@@ -116,17 +120,17 @@ pub fn is_dark(part: &Part, grains: u64) -> bool {
     stored && place(part, grains) >= DARK && part.held() == part.sectors
 }
 
-/// Patterns, the ramp for the legend and the style of texts.
+fn pattern((name, ground, drawn): Pattern) -> String {
+    let square = r#"width="6" height="6""#;
+    let head = format!(r#"<pattern id="{name}" {square} patternUnits="userSpaceOnUse">"#);
+    format!("{head}<rect {square} fill=\"{ground}\"/>{drawn}</pattern>\n")
+}
+
+/// Patterns, and the ramp for the legend.
 pub fn definitions() -> String {
-    let mut told = String::from("<defs>\n");
-    for (name, ground, drawn) in PATTERNS {
-        let square = r#"width="6" height="6""#;
-        told += &format!(
-            "<pattern id=\"{name}\" {square} patternUnits=\"userSpaceOnUse\"><rect {square} fill=\"{ground}\"/>{drawn}</pattern>\n"
-        );
-    }
-    told += VEIL;
-    told += "\n<linearGradient id=\"ramp\">";
+    let patterns = PATTERNS.into_iter().chain([VEIL]).map(pattern);
+    let mut told = format!("<defs>\n{}", patterns.collect::<String>());
+    told += "<linearGradient id=\"ramp\">";
     for (step, colour) in RAMP.iter().enumerate() {
         let offset = step as f64 / (RAMP.len() - 1) as f64;
         told += &format!(

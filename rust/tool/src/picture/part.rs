@@ -71,6 +71,8 @@ impl Part {
         Part {
             grains: Some(Span::new(grains.0, grains.1, sectors)),
             hidden: if hidden { sectors } else { 0 },
+            // Each of those has an edge of its own.
+            together: grains.0 < grains.1 && matches!(kind, Kind::Stored | Kind::Packed),
             ..Part::new(first, sectors, kind)
         }
     }

@@ -1,7 +1,8 @@
-//! A list of parts that stays short: neighbours are put together where there are more than a bound, and nothing of them is lost.
+//! A list of parts that stays short: neighbours are put together where there are more than a bound, and nothing of them is
+//! lost.
 //!
-//! Neighbours become one where they are no longer together than a cell, and the cell grows until there are few enough parts. What a
-//! file has once, its header and the like, is put together last, so that it is seen as long as possible.
+//! Neighbours become one where they are no longer together than a cell, and the cell grows until there are few enough parts.
+//! What a file has once, its header and the like, is put together last, so that it is seen as long as possible.
 
 use super::kind::Kind;
 use super::part::Part;

@@ -8,8 +8,8 @@ use super::svg::Svg;
 pub const LEFT: f64 = 24.0;
 pub const LONG: f64 = 930.0;
 
-/// Parts of a file in a row that look alike are at least so wide together, and each of them, where that takes no more than these
-/// shares of the strip.
+/// Parts of a file in a row that look alike are at least so wide together, and each of them, where that takes no more than
+/// these shares of the strip.
 const LEAST: f64 = 8.0;
 const ALIKE: f64 = 0.3;
 const EACH: f64 = 0.2;

@@ -49,3 +49,24 @@ impl Span {
         (sum * 1000 / most.max(1)) as u64
     }
 }
+
+#[cfg(test)]
+mod tests {
+    use super::*;
+
+    #[test]
+    fn grains_have_a_place_on_the_disk() {
+        let place = |first, last| Span::new(first, last, 128).place(101);
+        assert_eq!(
+            (place(0, 0), place(50, 50), place(100, 100)),
+            (0, 500, 1000)
+        );
+        let both = Span::new(10, 10, 128).and(Span::new(30, 30, 128));
+        assert_eq!(
+            (both.place(101), both.count, both.in_order),
+            (200, 2, false)
+        );
+        assert!(Span::new(3, 4, 256).and(Span::new(5, 9, 640)).in_order);
+        assert_eq!(Span::new(0, 0, 8).place(1), 0);
+    }
+}

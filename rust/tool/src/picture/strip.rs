@@ -17,7 +17,8 @@ const THIN: f64 = 2.0;
 const BELOW: f64 = 1.0;
 
 /// Narrower parts have no edge of their own: it would be all that is seen.
-const EDGED: f64 = 4.0;
+const EDGED: f64 = 7.0;
+const EDGE: &str = r##"fill="none" stroke="#333" stroke-width=".6" pointer-events="none""##;
 
 /// What is the same for all strips of a picture.
 #[derive(Clone, Copy)]
@@ -57,6 +58,16 @@ pub fn draw(svg: &mut Svg, look: Look, parts: &[Part], scale: &Scale) {
     }
 }
 
+/// The share of a part's height that is filled: all of it where something is wrong or where it is empty.
+fn share(part: &Part, height: f64) -> f64 {
+    let wrong = matches!(part.main(), Kind::Shared | Kind::Refused);
+    if wrong || part.held() == 0 {
+        return 1.0;
+    }
+    let share = part.held() as f64 / part.sectors as f64;
+    share.max(LOW / height).min(1.0)
+}
+
 fn draw_part(svg: &mut Svg, look: Look, part: &Part, x: f64, wide: f64) {
     let width = wide.max(THIN);
     let whole = Rectangle {
@@ -65,25 +76,16 @@ fn draw_part(svg: &mut Svg, look: Look, part: &Part, x: f64, wide: f64) {
         width,
         height: look.height,
     };
-    let wrong = matches!(part.main(), Kind::Shared | Kind::Refused);
-    let share = part.held() as f64 / part.sectors as f64;
-    let share = if wrong || part.held() == 0 {
-        1.0
-    } else {
-        share.max(LOW / look.height)
-    };
-    let held = whole.lowest(share.min(1.0));
+    let share = share(part, look.height);
+    let held = whole.lowest(share);
     svg.titled(&title(look.strip, part), |svg| {
         if share < 1.0 {
-            let absent = part.of(Kind::Absent) > 0;
-            svg.rectangle(
-                whole,
-                if absent {
-                    r#"fill="url(#absent)""#
-                } else {
-                    r##"fill="#fff""##
-                },
-            );
+            let empty = if part.of(Kind::Absent) > 0 {
+                "url(#absent)"
+            } else {
+                "#fff"
+            };
+            svg.rectangle(whole, &format!(r#"fill="{empty}""#));
         }
         svg.rectangle(held, &paint::fill(part, look.grains));
         if part.main() == Kind::Packed {
@@ -93,10 +95,7 @@ fn draw_part(svg: &mut Svg, look: Look, part: &Part, x: f64, wide: f64) {
             svg.rectangle(held, r#"fill="url(#hidden)""#);
         }
         if wide >= EDGED {
-            svg.rectangle(
-                whole,
-                r##"fill="none" stroke="#333" stroke-width=".6" pointer-events="none""##,
-            );
+            svg.rectangle(whole, EDGE);
         }
     });
 }

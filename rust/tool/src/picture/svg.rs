@@ -103,3 +103,14 @@ impl Svg {
         self.0
     }
 }
+
+#[cfg(test)]
+mod tests {
+    use super::*;
+
+    #[test]
+    fn texts_are_escaped() {
+        assert_eq!(escaped("a<b>&\"c\"'"), "a&lt;b&gt;&amp;&quot;c&quot;'");
+        assert_eq!(escaped("\u{ffff}"), "\\xef\\xbf\\xbf");
+    }
+}

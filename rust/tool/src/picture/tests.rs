@@ -1,8 +1,6 @@
 use super::kind::{Kind, KINDS};
 use super::part::{Owner, Part};
 use super::parts::Parts;
-use super::span::Span;
-use super::svg::escaped;
 use super::sweep::{sweep, Run};
 use super::titles::{title, Strip};
 use anhkhovet::{Area, Group, Refusal};
@@ -161,43 +159,48 @@ fn marked(areas: &[Area], runs: &[Run], sectors: u64) -> Vec<Vec<Kind>> {
     marks
 }
 
-#[test]
-fn each_sector_is_what_takes_it() {
-    const SECTORS: u64 = 400;
+const SECTORS: u64 = 400;
+
+/// Three areas and four runs of grains of 8 sectors, anywhere in a file.
+fn anywhere(chance: &mut Chance) -> (Vec<Area>, Vec<Run>) {
     let groups = [
         Group::Header,
         Group::Descriptor,
         Group::PrimaryTable,
         Group::RedundantTable,
     ];
+    let mut chosen = |most: u64| {
+        (
+            chance.below(SECTORS - 8 * most),
+            1 + chance.below(most),
+            chance.below(4),
+        )
+    };
+    let areas = (0..3)
+        .map(|_| chosen(40))
+        .map(|(first, sectors, group)| Area {
+            group: groups[group as usize],
+            first,
+            sectors,
+        });
+    let areas = areas.collect();
+    let runs = (0..4).map(|number| (number, chosen(9)));
+    let runs = runs.map(|(number, (at, grains, by))| Run {
+        at,
+        sectors: if by == 0 { grains } else { 8 * grains },
+        grain: 100 * number,
+        packed: by == 0,
+        hidden: by == 1,
+    });
+    (areas, runs.collect())
+}
+
+#[test]
+fn each_sector_is_what_takes_it() {
     let mut chance = Chance(12);
     let mut shared = 0;
     for _ in 0..600 {
-        let mut chosen = |most: u64| {
-            (
-                chance.below(SECTORS - most),
-                1 + chance.below(most),
-                chance.below(4),
-            )
-        };
-        let areas = (0..3)
-            .map(|_| chosen(40))
-            .map(|(first, sectors, group)| Area {
-                group: groups[group as usize],
-                first,
-                sectors,
-            });
-        let areas: Vec<Area> = areas.collect();
-        let runs = (0..4)
-            .map(|number| (number, chosen(9)))
-            .map(|(number, (at, grains, by))| Run {
-                at: at.min(SECTORS - 72),
-                sectors: if by == 0 { grains } else { 8 * grains },
-                grain: 100 * number,
-                packed: by == 0,
-                hidden: by == 1,
-            });
-        let runs: Vec<Run> = runs.collect();
+        let (areas, runs) = anywhere(&mut chance);
         let marks = marked(&areas, &runs, SECTORS);
         let parts = sweep(areas, runs, 8, Parts::new(SECTORS, 900), SECTORS);
         in_a_row(&parts, SECTORS);
@@ -259,7 +262,8 @@ fn what_is_put_together_is_told() {
         "put together: 12 grains, 3 to 14, stored: file sectors 128 to 1,663"
     );
     part.join(&Part::of_grains(1664, 128, Kind::Stored, (1, 1), true));
-    let told = "put together: 13 grains between 1 and 14, not in order, stored: file sectors 128 to 1,791; 128 sectors hidden by a layer above";
+    let told = "put together: 13 grains between 1 and 14, not in order, stored: file sectors 128 to 1,791; \
+                128 sectors hidden by a layer above";
     assert_eq!(title(Strip::File, &part), told);
     part.join(&Part::new(1792, 4, Kind::PrimaryTable));
     assert!(title(Strip::File, &part)
@@ -273,26 +277,4 @@ fn what_is_put_together_is_told() {
     };
     let told = "grain 7, refused: virtual sectors 896 to 1,023; refused 9 at grain 7: the grain runs past the end of the file";
     assert_eq!(title(Strip::Disk, &refused), told);
-}
-
-#[test]
-fn grains_have_a_place_on_the_disk() {
-    let place = |first, last| Span::new(first, last, 128).place(101);
-    assert_eq!(
-        (place(0, 0), place(50, 50), place(100, 100)),
-        (0, 500, 1000)
-    );
-    let both = Span::new(10, 10, 128).and(Span::new(30, 30, 128));
-    assert_eq!(
-        (both.place(101), both.count, both.in_order),
-        (200, 2, false)
-    );
-    assert!(Span::new(3, 4, 256).and(Span::new(5, 9, 640)).in_order);
-    assert_eq!(Span::new(0, 0, 8).place(1), 0);
-}
-
-#[test]
-fn texts_are_escaped() {
-    assert_eq!(escaped("a<b>&\"c\"'"), "a&lt;b&gt;&amp;&quot;c&quot;'");
-    assert_eq!(escaped("\u{ffff}"), "\\xef\\xbf\\xbf");
 }

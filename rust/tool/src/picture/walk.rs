@@ -1,8 +1,8 @@
 //! All grains of a chain, one after the other: what the disk has there and each layer, and where that stands in the files.
 
-use super::kind::Kind;
 use super::part::Part;
 use super::parts::Parts;
+use super::row::{Found, Grain, Row};
 use super::sweep::{sweep, Run};
 use crate::failure::Failure;
 use crate::files::Layers;
@@ -24,13 +24,6 @@ pub struct Strips {
     pub disk: Vec<Part>,
 }
 
-/// One grain, as far as it lies below capacity.
-struct Grain {
-    number: u64,
-    first: u64,
-    sectors: u64,
-}
-
 /// A lookup's answer.
 type Answer = Result<Source, Refusal>;
 
@@ -39,8 +32,8 @@ struct Walk<'a> {
     grain_size: u64,
     /// Of each layer.
     runs: Vec<Vec<Run>>,
-    layers: Vec<Parts>,
-    disk: Parts,
+    layers: Vec<Row>,
+    disk: Row,
 }
 
 /// The strips of layers that the check accepts or refuses with 9 to 12, by their frames.
@@ -49,20 +42,19 @@ pub fn walk(given: &Layers, disk: Disk, frames: Vec<Vec<Area>>) -> Result<Strips
     let strips = if count == 1 { 2 } else { 2 * count + 1 };
     let most = MOST.min(PARTS / strips);
     let shown = if count == 1 { 0 } else { count };
+    let row = || Row::new(Parts::new(disk.capacity, most));
     let mut walk = Walk {
         given,
         grain_size: disk.grain_size,
         runs: vec![Vec::new(); count],
-        layers: (0..shown)
-            .map(|_| Parts::new(disk.capacity, most))
-            .collect(),
-        disk: Parts::new(disk.capacity, most),
+        layers: (0..shown).map(|_| row()).collect(),
+        disk: row(),
     };
     let progress = Progress::start("drawing", disk.capacity);
     let (mut first, mut number) = (0, 0);
     while first < disk.capacity {
         let sectors = disk.grain_size.min(disk.capacity - first);
-        walk.add(&Grain {
+        walk.add(Grain {
             number,
             first,
             sectors,
@@ -75,7 +67,7 @@ pub fn walk(given: &Layers, disk: Disk, frames: Vec<Vec<Area>>) -> Result<Strips
 }
 
 impl Walk<'_> {
-    fn add(&mut self, grain: &Grain) -> Result<(), Failure> {
+    fn add(&mut self, grain: Grain) -> Result<(), Failure> {
         let (top, answer) = match self.given.search(grain.first) {
             Ok(Located { layer, source }) => (layer, Ok(source)),
             Err(ChainRefusal { refusal, layer }) if matches!(refusal.number, 9 | 10) => {
@@ -85,10 +77,14 @@ impl Walk<'_> {
                 return Err(Failure::refused(self.given.path(layer))(refusal))
             }
         };
-        self.disk.push(Part {
-            layers: if self.layers.is_empty() { 0 } else { 1 << top },
-            ..part(grain, answer, false)
-        });
+        let found = Found::of(answer);
+        if self.layers.is_empty() {
+            self.disk.add(grain, found);
+            self.take(0, &grain, answer, false);
+            return Ok(());
+        }
+        let layers = 1 << top;
+        self.disk.add(grain, Found { layers, ..found });
         for layer in 0..self.layers.len() as u64 {
             let own = match layer {
                 layer if layer > top => Ok(Source::Absent),
@@ -96,11 +92,12 @@ impl Walk<'_> {
                 layer => anhkhovet::lookup(self.given.bytes(layer), grain.first),
             };
             let hidden = layer < top && own != Ok(Source::Absent);
-            self.layers[layer as usize].push(part(grain, own, hidden));
-            self.take(layer, grain, own, hidden);
-        }
-        if self.layers.is_empty() {
-            self.take(0, grain, answer, false);
+            let found = Found {
+                hidden,
+                ..Found::of(own)
+            };
+            self.layers[layer as usize].add(grain, found);
+            self.take(layer, &grain, own, hidden);
         }
         Ok(())
     }
@@ -143,18 +140,8 @@ impl Walk<'_> {
         };
         Strips {
             files: (0..).zip(runs).zip(frames).map(file).collect(),
-            layers: self.layers.into_iter().map(Parts::done).collect(),
+            layers: self.layers.into_iter().map(Row::done).collect(),
             disk: self.disk.done(),
         }
-    }
-}
-
-/// A grain as a part of the disk.
-fn part(grain: &Grain, answer: Answer, hidden: bool) -> Part {
-    let kind = answer.map_or(Kind::Refused, Kind::of);
-    let numbers = (grain.number, grain.number);
-    Part {
-        refused: answer.err(),
-        ..Part::of_grains(grain.first, grain.sectors, kind, numbers, hidden)
     }
 }
