@@ -10,7 +10,7 @@ use crate::failure::{self, Failure};
 use crate::json::Object;
 use crate::names::{self, name};
 use crate::print;
-use crate::still_open::{remark, OpenImages};
+use crate::still_open::OpenImages;
 use serde_json::{json, Value};
 
 pub fn tell(
@@ -34,13 +34,9 @@ pub fn tell(
     ))
 }
 
-/// The verdict on a layer, as `check` tells it.
+/// The verdict on a layer. That its disk was still open is told on standard error.
 fn line(layer: &Drawn, why: anhkhovet::Refusal) -> String {
-    format!(
-        "{}: {why}{}\n",
-        name(&layer.path),
-        remark(Some(layer.still_open))
-    )
+    format!("{}: {why}\n", name(&layer.path))
 }
 
 fn members(
