@@ -34,6 +34,7 @@ pub enum Task {
     Mend(mend::Asked),
     Move(Vec<PathBuf>, Target),
     Close(PathBuf, Target),
+    Picture(Vec<PathBuf>, Target),
     Describe(PathBuf, Option<u64>),
     Header(PathBuf),
     /// Of one number, or of all.
@@ -51,6 +52,9 @@ const IMAGE_FROM_INPUT: &str =
 
 const IMAGE_TO_OUTPUT: &str =
     "an image is written here and there, so it cannot go to `-`, standard output; a file of that name is ./-";
+
+const PICTURE_TO_OUTPUT: &str =
+    "a picture is a file that appears when it is whole, so it cannot go to `-`, standard output; a file of that name is ./-";
 
 fn task(name: &str, given: &ArgMatches) -> Option<Task> {
     if name == "refusals" {
@@ -96,6 +100,7 @@ fn task(name: &str, given: &ArgMatches) -> Option<Task> {
         }),
         "move" => Task::Move(files, target()?),
         "close" => Task::Close(files.into_iter().next()?, target()?),
+        "picture" => Task::Picture(files, target()?),
         "describe" => Task::Describe(files.into_iter().next()?, sector()),
         "header" => Task::Header(files.into_iter().next()?),
         _ => return None,
@@ -113,7 +118,7 @@ fn misused(task: &Task) -> Option<&'static str> {
         Task::Check(files) | Task::Profile(files) | Task::Survey(files) => files,
         Task::Map(files) | Task::Coverage(files) | Task::Digest(files, _) => files,
         Task::Sector(files, _) | Task::Read(files, ..) | Task::Compare(files, _) => files,
-        Task::Collapse(files, _) | Task::Move(files, _) => files,
+        Task::Collapse(files, _) | Task::Move(files, _) | Task::Picture(files, _) => files,
         Task::Normal(file, _) | Task::Close(file, _) => std::slice::from_ref(file),
         Task::Mend(asked) => std::slice::from_ref(&asked.file),
         Task::Describe(..) => &[],
@@ -122,7 +127,7 @@ fn misused(task: &Task) -> Option<&'static str> {
     };
     let output = match task {
         Task::Collapse(_, to) | Task::Normal(_, to) => Some(to),
-        Task::Move(_, to) | Task::Close(_, to) => Some(to),
+        Task::Move(_, to) | Task::Close(_, to) | Task::Picture(_, to) => Some(to),
         Task::Mend(asked) => asked.target.as_ref(),
         _ => None,
     };
@@ -130,7 +135,11 @@ fn misused(task: &Task) -> Option<&'static str> {
         return Some(IMAGE_FROM_INPUT);
     }
     let unfit = output.map_or(false, |to| stream(&to.path));
-    unfit.then_some(IMAGE_TO_OUTPUT)
+    let why = match task {
+        Task::Picture(..) => PICTURE_TO_OUTPUT,
+        _ => IMAGE_TO_OUTPUT,
+    };
+    unfit.then_some(why)
 }
 
 fn asked(words: &[OsString]) -> Result<(Task, bool), clap::Error> {

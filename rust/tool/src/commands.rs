@@ -76,7 +76,7 @@ pub fn command() -> Command {
                 .action(ArgAction::SetTrue),
         );
     let command = describing(digesting(reading(judging(command))));
-    closing(moving(mending(writing(command))))
+    picturing(closing(moving(mending(writing(command)))))
 }
 
 fn judging(command: Command) -> Command {
@@ -236,6 +236,16 @@ fn closing(command: Command) -> Command {
         subcommand("close")
             .about("Writes what a stream that broke off has kept, closed so that it is an image")
             .arg(files("The start of a stream, which is only read").num_args(1))
+            .arg(output(IMAGE_OUT, true))
+            .arg(force()),
+    )
+}
+
+fn picturing(command: Command) -> Command {
+    command.subcommand(
+        subcommand("picture")
+            .about("Draws files and the disk as strips, in an SVG: what each sector is for, and what is in two areas")
+            .arg(files("The image, or the layers of a chain, base first; also such as `check` refuses with 9 to 12"))
             .arg(output(IMAGE_OUT, true))
             .arg(force()),
     )

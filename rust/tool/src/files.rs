@@ -224,7 +224,8 @@ impl Layers {
         })
     }
 
-    fn search(&self, sector: u64) -> Result<Located, ChainRefusal> {
+    /// The same by what is copied already.
+    pub fn search(&self, sector: u64) -> Result<Located, ChainRefusal> {
         if self.files.len() == 1 {
             let layer = 0;
             anhkhovet::lookup(self.own.bytes(), sector)

@@ -50,6 +50,7 @@ mod named;
 mod names;
 mod output;
 mod own;
+mod picture;
 mod place;
 mod print;
 mod profile;
@@ -93,6 +94,7 @@ fn run(task: Task, json: bool) -> Result<(), Failure> {
         Task::Mend(asked) => mend::mend(&asked, json),
         Task::Move(files, target) => moves::run(&files, &target, json),
         Task::Close(file, target) => close::close(&file, &target, json),
+        Task::Picture(files, target) => picture::picture(&files, &target, json),
         Task::Describe(file, sector) => describe::describe(&file, sector, json),
         Task::Header(file) => header::header(&file, json),
         Task::Refusals(number) => refusals::refusals(number, json),
