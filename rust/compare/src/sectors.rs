@@ -98,7 +98,8 @@ impl Run<'_> {
             _ => "packed",
         };
         self.tally.answered(Call::Read, row);
-        if is_cowd(image) && image.len() >= 2048 {
+        let gone = is_cowd(image) && image.len() >= 2048;
+        if gone && answers[1].length == 0 {
             self.tally.answered(Call::Read, "empty part of COWD");
         }
         let located = plain::lookup(image, sector);
