@@ -31,6 +31,13 @@ answer! {
     Located { number, layer, place, kind, sector, size, offset }
 }
 answer! {
+    /// How a lookup comes to its answer: what 1 means (1 for zeros), the grain, and two entries with the bytes of the file at which they
+    /// stand. What was not reached is 0. The rest is the lookup's.
+    Steps {
+        number, place, one_is_zero, grain, directory_at, directory_entry, table_at, table_entry, kind, sector, size, offset
+    }
+}
+answer! {
     /// A part of the image, in bytes.
     Part { at, length }
 }
@@ -79,6 +86,7 @@ extern "C" {
     pub fn anhkhovet_profile(image: *const u8, length: usize) -> Verdict;
     pub fn anhkhovet_header(image: *const u8, length: usize) -> Head;
     pub fn anhkhovet_lookup(image: *const u8, length: usize, sector: u64) -> Located;
+    pub fn anhkhovet_steps(image: *const u8, length: usize, sector: u64) -> Steps;
     pub fn anhkhovet_chain(
         layers: *const u8,
         layers_length: usize,

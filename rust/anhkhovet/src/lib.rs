@@ -7,8 +7,8 @@
 //! - [`check`] judges a whole image, and [`check_in`] does so in memory that is lent; [`header`] judges its header alone, and
 //!   [`frame`] lists what of it is no grain. [`profile`] judges whether a whole image has the one form of what is published.
 //! - [`survey`] judges many images and counts their grains.
-//! - [`lookup`] says where a sector comes from, [`chain`] the same for layers on top of each other, and [`read`] hands over
-//!   its bytes.
+//! - [`lookup`] says where a sector comes from, [`steps`] how that is found, [`chain`] the same as the lookup for layers on top of
+//!   each other, and [`read`] hands over its bytes.
 //! - [`normal`] and [`collapse`] write an image into memory that is lent; [`to_kdmv`] and [`to_cowd`] write one as the other kind.
 //!   No other call takes a COWD image: it is refused 43.
 //! - [`close`] writes what is missing of a stream that broke off.
@@ -45,6 +45,7 @@ mod mending;
 pub mod raw;
 mod refusal;
 mod sectors;
+mod steps;
 mod surveys;
 mod texts;
 mod writing;
@@ -57,6 +58,7 @@ pub use marks::{check_in, words_needed, Marked, MarkedRefusal};
 pub use mending::{changes, mend, Change, Side, CHANGE};
 pub use refusal::{ChainRefusal, Counted, MisplacedPart, Refusal};
 pub use sectors::{chain, lookup, read, read_part, Located, Source};
+pub use steps::{steps, Step, Steps, StepsRefusal, Way};
 pub use surveys::{survey, Counts, Survey, Tallied};
 pub use texts::{descriptor, find, Access, Descriptor, Extent, ExtentKind};
 pub use writing::{collapse, normal, to_cowd, to_kdmv};

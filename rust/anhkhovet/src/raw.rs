@@ -8,7 +8,7 @@
 use crate::face;
 
 pub use face::{
-    Closed, Described, Extent, Found, Framed, Head, Located, Marked, Mended, Part, Surveyed,
+    Closed, Described, Extent, Found, Framed, Head, Located, Marked, Mended, Part, Steps, Surveyed,
     Verdict, Written,
 };
 
@@ -49,6 +49,12 @@ pub fn header(image: &[u8]) -> Head {
 pub fn lookup(image: &[u8], sector: u64) -> Located {
     // SAFETY: see the top of the file.
     unsafe { face::anhkhovet_lookup(image.as_ptr(), image.len(), sector) }
+}
+
+/// How the lookup comes to where virtual sector `sector` comes from.
+pub fn steps(image: &[u8], sector: u64) -> Steps {
+    // SAFETY: see the top of the file.
+    unsafe { face::anhkhovet_steps(image.as_ptr(), image.len(), sector) }
 }
 
 /// Where virtual sector `sector` of a chain comes from: layers end to end, base first, and their lengths.

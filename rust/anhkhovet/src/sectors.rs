@@ -37,15 +37,18 @@ pub struct Located {
 
 impl Source {
     pub(crate) fn of(located: &raw::Located) -> Source {
-        let sector = located.sector;
-        match located.kind {
+        Source::from_numbers(located.kind, located.sector, located.size, located.offset)
+    }
+
+    pub(crate) fn from_numbers(kind: u64, sector: u64, size: u64, offset: u64) -> Source {
+        match kind {
             0 => Source::Absent,
             1 => Source::Zero,
             2 => Source::Stored { sector },
             3 => Source::Packed {
                 sector,
-                size: located.size,
-                offset: located.offset,
+                size,
+                offset,
             },
             kind => unreachable!("the library's contract has no kind {kind}"),
         }

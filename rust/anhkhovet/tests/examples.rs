@@ -42,6 +42,7 @@ examples! {
     read "read.rs"
     split "split.rs"
     stack "stack.rs"
+    steps "steps.rs"
     survey "survey.rs"
     to_cowd "to_cowd.rs"
     to_kdmv "to_kdmv.rs"
