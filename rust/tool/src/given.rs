@@ -35,8 +35,7 @@ impl Given {
 
     /// For an answer on one sector.
     pub fn at(paths: &[PathBuf], sector: u64) -> Result<Given, Failure> {
-        let (first, count) = (sector, Some(1));
-        Given::over(paths, Stretch { first, count })
+        Given::of(paths, |disk| Split::at(disk, sector))?.remarked()
     }
 
     /// For an answer on sectors in a row.

@@ -37,7 +37,13 @@ impl Split {
         Split::of(disk, all)
     }
 
-    /// With the files of the extents alone that hold a stretch: no other one is judged, nor need it be there.
+    /// With the file of the extent alone that holds a sector: no other one is judged, nor need it be there.
+    pub fn at(disk: Described, sector: u64) -> Result<Split, Failure> {
+        let (first, count) = (sector, Some(1));
+        Split::over(disk, Stretch { first, count })
+    }
+
+    /// The same with the extents that hold a stretch.
     pub fn over(disk: Described, stretch: Stretch) -> Result<Split, Failure> {
         let first = found(&disk, stretch.first)?;
         let last = found(&disk, stretch.last(capacity(&disk)))?;
