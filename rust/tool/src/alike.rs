@@ -1,7 +1,9 @@
 //! What the layers of a chain have in common: capacity and grain size.
 
+use crate::failure::Refusal;
+use crate::files::Layers;
 use crate::names::name;
-use anhkhovet::Disk;
+use anhkhovet::{ChainRefusal, Disk};
 use std::path::Path;
 
 pub fn disk(image: &[u8]) -> Result<Disk, anhkhovet::Refusal> {
@@ -28,4 +30,29 @@ pub fn unlike(images: &[(&Path, &[u8])]) -> String {
         },
         None => String::new(),
     }
+}
+
+/// What a chain is refused for. A refusal of the whole chain names no layer: the library says 0 there.
+pub fn refusal(layers: &Layers, refused: &ChainRefusal) -> Refusal {
+    let file = match refused.layer_at_fault() {
+        None if layers.count() > 1 => None,
+        _ => Some(layers.path(refused.layer)),
+    };
+    let mut refusal = Refusal::new(refused.refusal, file);
+    match refused.refusal.number {
+        20 => {
+            if let Ok(disk) = disk(layers.bytes(0)) {
+                refusal.detail = format!("the last sector is {}", disk.capacity - 1);
+            }
+        }
+        22 => {
+            let images: Vec<_> = (0..layers.count() as u64)
+                .map(|layer| (layers.path(layer), layers.bytes(layer)))
+                .collect();
+            refusal.detail = unlike(&images);
+        }
+        24 => refusal.detail = format!("here are {}", layers.count()),
+        _ => {}
+    }
+    refusal
 }

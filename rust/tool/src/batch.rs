@@ -2,11 +2,13 @@
 
 use crate::difference::Fault;
 use crate::failure::Failure;
+use crate::formats::{Line, Name};
 use crate::given::Given;
 use crate::grains::Grains;
 use crate::hash::{Hash, Hasher, Piece};
-use crate::lines::{Content, Lines, Listed};
+use crate::lines::{Content, Lines};
 use anhkhovet::SECTOR;
+use std::ops::Range;
 use std::path::Path;
 
 /// As many lines and bytes of sectors are worked on at once.
@@ -19,12 +21,22 @@ pub struct Item {
     pub listed: Result<Listed, (Option<u64>, Fault)>,
 }
 
-/// What the image has at a sector: the first sector of its digest, whether its grain is packed, and the digest.
+/// What a line says: the digest of a sector or grain, or of the packed grain that begins there.
+pub struct Listed {
+    pub sector: u64,
+    pub hash: Hash,
+    pub packed: bool,
+    /// How many bytes it is of, where the line tells.
+    pub bytes: Option<u64>,
+}
+
+/// What the image has at a sector: the first sector of its digest, whether its grain is packed, the digest and its bytes.
 #[derive(Clone, Copy)]
 pub struct Found {
     pub first: u64,
     pub packed: bool,
     pub hash: Hash,
+    pub bytes: u64,
 }
 
 #[derive(Default)]
@@ -39,6 +51,8 @@ pub struct Reader<'a> {
     given: &'a mut Given,
     cut: &'a Grains,
     grains: bool,
+    /// What is compared: lines that name other sectors of the disk are passed over.
+    range: Range<u64>,
     lines: Lines,
     ended: bool,
 }
@@ -48,12 +62,14 @@ impl<'a> Reader<'a> {
         given: &'a mut Given,
         cut: &'a Grains,
         grains: bool,
+        range: Range<u64>,
         list: &Path,
     ) -> Result<Reader<'a>, Failure> {
         Ok(Reader {
             given,
             cut,
             grains,
+            range,
             lines: Lines::open(list)?,
             ended: false,
         })
@@ -69,6 +85,9 @@ impl<'a> Reader<'a> {
             };
             self.ended = matches!(content, Content::Binary);
             let listed = self.listed(content);
+            if matches!(&listed, Ok(line) if !self.compared(line)) {
+                continue;
+            }
             bytes += listed.as_ref().map_or(0, |line| self.length(line));
             let line = self.lines.number;
             batch.items.push(Item { line, listed });
@@ -86,14 +105,51 @@ impl<'a> Reader<'a> {
             Content::Binary => return Err((None, Fault::Text)),
             Content::Entry(line) => line,
         };
-        let (sector, capacity) = (line.sector, self.cut.capacity());
+        let (sector, packed) = self.named(&line).map_err(|fault| (None, fault))?;
+        let capacity = self.cut.capacity();
         if sector >= capacity {
             return Err((Some(sector), Fault::Past(capacity - 1)));
         }
         match self.cut.around(sector).start {
             first if self.grains && sector != first => Err((Some(sector), Fault::Inside(first))),
-            _ => Ok(line),
+            _ => Ok(Listed {
+                sector,
+                hash: line.hash,
+                packed,
+                bytes: line.bytes,
+            }),
         }
+    }
+
+    /// The sector that a line names, and whether its grain is packed.
+    fn named(&self, line: &Line) -> Result<(u64, bool), Fault> {
+        let compared = if self.grains {
+            "grains are"
+        } else {
+            "sectors are"
+        };
+        match (line.name, self.cut.size()) {
+            (Name::Plain(sector), _) => Ok((sector, false)),
+            (Name::Packed(sector), _) => Ok((sector, true)),
+            (Name::Sector(sector), _) if !self.grains => Ok((sector, false)),
+            (Name::Grain(grain), Some(size)) if self.grains => {
+                Ok((grain.saturating_mul(size), false))
+            }
+            (Name::Sector(_), _) => Err(Fault::Unit("a sector", compared)),
+            (Name::Grain(_), _) => Err(Fault::Unit("a grain", compared)),
+            (Name::Disk, _) => Err(Fault::Unit("the whole disk", compared)),
+            (Name::Other, _) => Err(Fault::Form),
+        }
+    }
+
+    /// Whether what a line names has a sector among those that are compared.
+    fn compared(&self, line: &Listed) -> bool {
+        let named = if self.grains || line.packed {
+            self.cut.around(line.sector)
+        } else {
+            line.sector..line.sector + 1
+        };
+        named.start < self.range.end && self.range.start < named.end
     }
 
     /// The sectors of a line.
@@ -134,11 +190,13 @@ impl Batch {
         let mut all = Vec::with_capacity(self.items.len());
         for (piece, lines) in &self.pieces {
             let packed = piece.packed();
+            let bytes = piece.digested(grains);
             hasher.each(piece, grains, |sector, hash| {
                 let found = Found {
                     first: sector,
                     packed,
                     hash: *hash,
+                    bytes,
                 };
                 // The digest of a packed grain is that of all of its sectors.
                 let times = if packed { *lines } else { 1 };

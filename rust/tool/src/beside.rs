@@ -8,7 +8,7 @@ use std::os::unix::ffi::OsStrExt;
 use std::path::{Path, PathBuf};
 
 /// A file's name alone: no folder stands in it, and it is none of those that every folder has.
-fn plain_name(name: &[u8]) -> bool {
+pub fn plain_name(name: &[u8]) -> bool {
     !name.iter().any(|byte| matches!(byte, b'/' | b'\\')) && name != b"." && name != b".."
 }
 

@@ -1,9 +1,13 @@
 //! The command line: what its words ask for.
 
 use crate::commands::command;
-use crate::list::Asked;
+use crate::digest;
+use crate::grading;
+use crate::list;
 use crate::mend;
 use crate::names;
+use crate::stretch::Stretch;
+use crate::whole;
 use anhkhovet::Side;
 use clap::error::ErrorKind;
 use clap::ArgMatches;
@@ -24,15 +28,19 @@ pub enum Task {
     Survey(Vec<PathBuf>),
     Sector(Vec<PathBuf>, u64),
     Read(Vec<PathBuf>, u64, Option<Target>),
+    /// Sectors in a row, as they are on the disk.
+    ReadRow(Vec<PathBuf>, Stretch, Option<Target>),
     Map(Vec<PathBuf>),
     Coverage(Vec<PathBuf>),
-    /// Whether a grain has one digest.
-    Digest(Vec<PathBuf>, bool),
-    Compare(Vec<PathBuf>, Asked),
-    Collapse(Vec<PathBuf>, Target),
-    Normal(PathBuf, Target),
+    Digest(Vec<PathBuf>, digest::Asked),
+    Whole(Vec<PathBuf>, whole::Asked),
+    Compare(Vec<PathBuf>, list::Asked),
+    Raw(Vec<PathBuf>, Target),
+    /// With the name of a descriptor beside the result, as the two others that write such results.
+    Collapse(Vec<PathBuf>, Target, Option<PathBuf>),
+    Normal(PathBuf, Target, Option<PathBuf>),
     Mend(mend::Asked),
-    Move(Vec<PathBuf>, Target),
+    Move(Vec<PathBuf>, Target, Option<PathBuf>),
     Close(PathBuf, Target),
     Picture(Vec<PathBuf>, Target),
     Describe(PathBuf, Option<u64>),
@@ -68,27 +76,19 @@ fn task(name: &str, given: &ArgMatches) -> Option<Task> {
             force: given.get_flag("force"),
         })
     };
+    let descriptor = || given.get_one::<PathBuf>("descriptor").cloned();
     Some(match name {
         "check" => Task::Check(files),
         "profile" => Task::Profile(files),
         "survey" => Task::Survey(files),
         "sector" => Task::Sector(files, sector()?),
-        "read" => Task::Read(files, sector()?, target().filter(|to| !stream(&to.path))),
+        "read" => grading::read_task(files, given, target().filter(|to| !stream(&to.path)))?,
         "map" if given.get_flag("coverage") => Task::Coverage(files),
         "map" => Task::Map(files),
-        "digest" => match given.get_one::<PathBuf>("list") {
-            None => Task::Digest(files, given.get_flag("grain")),
-            Some(list) => Task::Compare(
-                files,
-                Asked {
-                    list: list.clone(),
-                    grains: given.get_flag("grain"),
-                    complete: given.get_flag("complete"),
-                },
-            ),
-        },
-        "collapse" => Task::Collapse(files, target()?),
-        "normal" => Task::Normal(files.into_iter().next()?, target()?),
+        "digest" => grading::digest_task(files, given)?,
+        "raw" => Task::Raw(files, target()?),
+        "collapse" => Task::Collapse(files, target()?, descriptor()),
+        "normal" => Task::Normal(files.into_iter().next()?, target()?, descriptor()),
         "mend" => Task::Mend(mend::Asked {
             file: files.into_iter().next()?,
             good: match given.get_one::<String>("good")?.as_str() {
@@ -98,7 +98,7 @@ fn task(name: &str, given: &ArgMatches) -> Option<Task> {
             target: target(),
             all: given.get_flag("all"),
         }),
-        "move" => Task::Move(files, target()?),
+        "move" => Task::Move(files, target()?, descriptor()),
         "close" => Task::Close(files.into_iter().next()?, target()?),
         "picture" => Task::Picture(files, target()?),
         "describe" => Task::Describe(files.into_iter().next()?, sector()),
@@ -118,16 +118,17 @@ fn misused(task: &Task) -> Option<&'static str> {
         Task::Check(files) | Task::Profile(files) | Task::Survey(files) => files,
         Task::Map(files) | Task::Coverage(files) | Task::Digest(files, _) => files,
         Task::Sector(files, _) | Task::Read(files, ..) | Task::Compare(files, _) => files,
-        Task::Collapse(files, _) | Task::Move(files, _) | Task::Picture(files, _) => files,
-        Task::Normal(file, _) | Task::Close(file, _) => std::slice::from_ref(file),
+        Task::ReadRow(files, ..) | Task::Whole(files, _) | Task::Raw(files, _) => files,
+        Task::Collapse(files, ..) | Task::Move(files, ..) | Task::Picture(files, _) => files,
+        Task::Normal(file, ..) | Task::Close(file, _) => std::slice::from_ref(file),
         Task::Mend(asked) => std::slice::from_ref(&asked.file),
         Task::Describe(..) => &[],
         Task::Header(file) => std::slice::from_ref(file),
         Task::Refusals(_) => &[],
     };
     let output = match task {
-        Task::Collapse(_, to) | Task::Normal(_, to) => Some(to),
-        Task::Move(_, to) | Task::Close(_, to) | Task::Picture(_, to) => Some(to),
+        Task::Collapse(_, to, _) | Task::Normal(_, to, _) | Task::Raw(_, to) => Some(to),
+        Task::Move(_, to, _) | Task::Close(_, to) | Task::Picture(_, to) => Some(to),
         Task::Mend(asked) => asked.target.as_ref(),
         _ => None,
     };
@@ -142,20 +143,34 @@ fn misused(task: &Task) -> Option<&'static str> {
     unfit.then_some(why)
 }
 
-fn asked(words: &[OsString]) -> Result<(Task, bool), clap::Error> {
+/// What is to be done, and how.
+pub struct Asked {
+    pub task: Task,
+    pub json: bool,
+    /// Whether layers that are no parent and child are a failure.
+    pub strict: bool,
+}
+
+fn asked(words: &[OsString]) -> Result<Asked, clap::Error> {
     let given = command().try_get_matches_from(words)?;
-    let (task, json) = given
+    let asked = |(name, given): (&str, &ArgMatches)| {
+        Some(Asked {
+            task: task(name, given)?,
+            json: given.get_flag("json"),
+            strict: grading::is_strict(given),
+        })
+    };
+    let asked = given
         .subcommand()
-        .and_then(|(name, given)| Some((task(name, given)?, given.get_flag("json"))))
+        .and_then(asked)
         .ok_or_else(|| command().error(ErrorKind::MissingSubcommand, "no command is given"))?;
-    match misused(&task) {
+    match misused(&asked.task) {
         Some(why) => Err(command().error(ErrorKind::InvalidValue, why)),
-        None => Ok((task, json)),
+        None => Ok(asked),
     }
 }
 
-/// The task, and whether it is to answer in JSON.
-pub fn parse() -> Result<(Task, bool), Stop> {
+pub fn parse() -> Result<Asked, Stop> {
     let words: Vec<OsString> = env::args_os().collect();
     asked(&words).map_err(|error| {
         // clap tells words as they are: so it is asked once more, with words as they may be told.

@@ -1,5 +1,7 @@
 //! The commands and their words, as clap knows them.
 
+use crate::grading::{descriptor, grading, sectors, strict};
+use crate::numbers;
 use clap::{value_parser, Arg, ArgAction, Command};
 use std::path::PathBuf;
 
@@ -24,7 +26,7 @@ fn files(about: &'static str) -> Arg {
         .required(true)
 }
 
-fn layers() -> Arg {
+pub fn layers() -> Arg {
     files("The image, the descriptor of a disk of several files, or the layers of a chain, base first")
 }
 
@@ -32,11 +34,11 @@ fn number() -> Arg {
     Arg::new("sector")
         .value_name("N")
         .help("The number of a virtual sector, from 0")
-        .value_parser(value_parser!(u64))
+        .value_parser(numbers::number)
         .required(true)
 }
 
-fn output(about: &'static str, required: bool) -> Arg {
+pub fn output(about: &'static str, required: bool) -> Arg {
     Arg::new("output")
         .short('o')
         .long("output")
@@ -46,18 +48,18 @@ fn output(about: &'static str, required: bool) -> Arg {
         .required(required)
 }
 
-fn force() -> Arg {
+pub fn force() -> Arg {
     flag("force", "Replace OUT if it exists").requires("output")
 }
 
-fn flag(name: &'static str, about: &'static str) -> Arg {
+pub fn flag(name: &'static str, about: &'static str) -> Arg {
     Arg::new(name)
         .long(name)
         .help(about)
         .action(ArgAction::SetTrue)
 }
 
-fn subcommand(name: &'static str) -> Command {
+pub fn subcommand(name: &'static str) -> Command {
     Command::new(name).after_help(STATUS)
 }
 
@@ -75,7 +77,7 @@ pub fn command() -> Command {
                 .help("Answer with one JSON object")
                 .action(ArgAction::SetTrue),
         );
-    let command = describing(digesting(reading(judging(command))));
+    let command = describing(grading(reading(judging(command))));
     picturing(closing(moving(mending(writing(command)))))
 }
 
@@ -104,18 +106,21 @@ fn reading(command: Command) -> Command {
             subcommand("sector")
                 .about("Says where a sector comes from: layer or extent, kind, file sector, byte offset")
                 .arg(layers())
-                .arg(number()),
+                .arg(number())
+                .arg(strict()),
         )
         .subcommand(
             subcommand("read")
                 .about("Gives the 512 bytes of a sector, or the closed payload of its packed grain")
                 .arg(layers())
                 .arg(number())
+                .arg(sectors().help("The bytes of so many sectors from N on, none of them packed"))
                 .arg(output(
                     "The file to write, instead of standard output; it appears when it is whole",
                     false,
                 ))
-                .arg(force()),
+                .arg(force())
+                .arg(strict()),
         )
         .subcommand(
             subcommand("map")
@@ -124,27 +129,9 @@ fn reading(command: Command) -> Command {
                 .arg(flag(
                     "coverage",
                     "Count instead: what the sectors of each file are for, and where those of the disk come from",
-                )),
+                ))
+                .arg(strict()),
         )
-}
-
-fn digesting(command: Command) -> Command {
-    let list = Arg::new("list")
-        .long("list")
-        .value_name("LIST")
-        .help("Compare with the lines of LIST (sector, digest), - for standard input, and tell all that do not hold")
-        .value_parser(value_parser!(PathBuf));
-    command.subcommand(
-        subcommand("digest")
-            .about("Gives the SHA-256 digest of each sector, or compares with a list of them")
-            .arg(layers())
-            .arg(flag(
-                "grain",
-                "One digest for each grain, told by its first sector",
-            ))
-            .arg(list)
-            .arg(flag("complete", "What LIST leaves out is a failure").requires("list")),
-    )
 }
 
 fn writing(command: Command) -> Command {
@@ -154,14 +141,17 @@ fn writing(command: Command) -> Command {
                 .about("Writes one image that reads as the layers do")
                 .arg(files("The layers, lowest first, two at least").num_args(2..))
                 .arg(output(IMAGE_OUT, true))
-                .arg(force()),
+                .arg(force())
+                .arg(descriptor())
+                .arg(strict()),
         )
         .subcommand(
             subcommand("normal")
                 .about("Writes an image's normal form")
                 .arg(files("The image").num_args(1))
                 .arg(output(IMAGE_OUT, true))
-                .arg(force()),
+                .arg(force())
+                .arg(descriptor()),
         )
 }
 
@@ -227,7 +217,8 @@ fn moving(command: Command) -> Command {
                 "The file to write, or a folder for files of the same names; each appears when it is whole",
                 true,
             ))
-            .arg(force()),
+            .arg(force())
+            .arg(descriptor()),
     )
 }
 

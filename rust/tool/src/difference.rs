@@ -6,6 +6,8 @@ use serde_json::{json, Value};
 pub enum Fault {
     Form,
     Text,
+    /// What the line names, and what is compared.
+    Unit(&'static str, &'static str),
     /// The disk's last sector.
     Past(u64),
     /// The first sector of the grain that it is inside of.
@@ -14,6 +16,8 @@ pub enum Fault {
     /// The first sector of the grain, which is packed.
     Packed(u64),
     Open,
+    /// How many bytes the list has a digest of, and how many there are in the image.
+    Size(u64, u64),
     /// The list's digest and the image's.
     Digest(String, String),
 }
@@ -30,11 +34,13 @@ impl Fault {
         match self {
             Fault::Form => "form",
             Fault::Text => "text",
+            Fault::Unit(..) => "unit",
             Fault::Past(_) => "past",
             Fault::Inside(_) => "inside",
             Fault::Twice => "twice",
             Fault::Packed(_) => "packed",
             Fault::Open => "open",
+            Fault::Size(..) => "size",
             Fault::Digest(..) => "digest",
         }
     }
@@ -42,6 +48,7 @@ impl Fault {
     fn sentence(&self) -> String {
         match self {
             Fault::Form => "is not of the form: sector, digest".into(),
+            Fault::Unit(named, compared) => format!("names {named}, and here {compared} compared"),
             Fault::Text => "is no line of text, so this is no list, and the rest is not looked at".into(),
             Fault::Past(last) => format!("is past the end of the disk, whose last is {last}"),
             Fault::Inside(first) => format!("is not the first of its grain, which is {first}"),
@@ -50,6 +57,9 @@ impl Fault {
                 "is packed in the image, in the grain from sector {first} on, and the list has a digest of open bytes"
             ),
             Fault::Open => "is not packed in the image, and the list says that it is".into(),
+            Fault::Size(listed, found) => {
+                format!("has {found} bytes in the image, and the list says {listed}")
+            }
             Fault::Digest(listed, found) => {
                 format!("differs: the list has {listed}, the image {found}")
             }

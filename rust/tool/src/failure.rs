@@ -20,6 +20,8 @@ pub enum Failure {
     Refused(Refusal),
     /// The file is well, and has not what was asked for: the file and why.
     Lacking(PathBuf, &'static str),
+    /// The file is no child of the layer below it, and that was asked for: the file and why.
+    Unrelated(PathBuf, String),
     /// The words were wrong, as what they name shows: the file and why.
     Misused(PathBuf, &'static str),
     /// The system refused something: the file, what was tried, and its word.
@@ -104,7 +106,7 @@ impl Failure {
 
     pub fn status(&self) -> Status {
         match self {
-            Failure::Refused(_) | Failure::Lacking(..) => Status::Refused,
+            Failure::Refused(_) | Failure::Lacking(..) | Failure::Unrelated(..) => Status::Refused,
             Failure::Misused(..) => Status::Misused,
             Failure::System(..) | Failure::Unfit(..) | Failure::Print(_) => Status::Failed,
             Failure::Extent(_, _, failure) => failure.status(),
@@ -125,6 +127,7 @@ impl Failure {
         match self {
             Failure::Refused(refusal) => refusal.file.as_deref(),
             Failure::System(file, ..) | Failure::Unfit(file, _) => Some(file),
+            Failure::Unrelated(file, _) => Some(file),
             Failure::Lacking(file, _) | Failure::Misused(file, _) => Some(file),
             Failure::Extent(descriptor, ..) => Some(descriptor),
             Failure::Print(_) | Failure::Told(_) => None,
@@ -137,7 +140,7 @@ impl Failure {
             Failure::Refused(refusal) => refusal.reason(),
             Failure::System(_, tried, error) => format!("{tried}: {error}"),
             Failure::Lacking(_, why) | Failure::Misused(_, why) => why.to_string(),
-            Failure::Unfit(_, why) => why.clone(),
+            Failure::Unfit(_, why) | Failure::Unrelated(_, why) => why.clone(),
             Failure::Extent(_, extent, failure) => format!("extent {extent}: {failure}"),
             Failure::Print(error) => format!("standard output: {error}"),
             Failure::Told(_) => String::new(),

@@ -1,12 +1,13 @@
 //! The files of one command, as the library gets them: own bytes, several files end to end in one range, base first.
 
-use crate::alike::{disk, unlike};
+use crate::alike::{disk, refusal};
 use crate::cowd;
 use crate::entries::{self, Unsure, CHECK, MEND};
-use crate::failure::{Failure, Refusal};
+use crate::failure::Failure;
 use crate::frame;
 use crate::layer::Layer;
 use crate::own::Own;
+use crate::parents::Strangers;
 use anhkhovet::{Area, ChainRefusal, Disk, Group, Located, Side};
 use std::fs::File;
 use std::ops::Range;
@@ -21,6 +22,7 @@ pub struct Layers {
     lengths: Vec<u64>,
     own: Own,
     parts: Vec<Part>,
+    strangers: Strangers,
 }
 
 /// One file's part of the own bytes.
@@ -37,7 +39,9 @@ struct Part {
 impl Layers {
     pub fn open(paths: &[PathBuf]) -> Result<Layers, Failure> {
         let files: Result<Vec<_>, _> = paths.iter().map(|path| Layer::open(path)).collect();
-        Layers::of(files?)
+        let mut layers = Layers::of(files?)?;
+        layers.strangers = Strangers::among(&[&layers]);
+        Ok(layers)
     }
 
     pub fn one(path: &Path) -> Result<Layers, Failure> {
@@ -106,6 +110,7 @@ impl Layers {
             files: files.into_iter().map(Arc::new).collect(),
             own,
             parts,
+            strangers: Strangers::default(),
         })
     }
 
@@ -152,6 +157,11 @@ impl Layers {
     /// The areas of one layer that are copied; none where the check refuses the layer with 1 to 8.
     pub fn frame(&self, layer: u64) -> &[Area] {
         &self.parts[layer as usize].frame
+    }
+
+    /// The layers of a chain that are no parent and child by their texts.
+    pub fn strangers(&self) -> &Strangers {
+        &self.strangers
     }
 
     /// Where the grain reader's bytes for a sector are in the layer's file: none for what is neither stored nor packed.
@@ -220,7 +230,7 @@ impl Layers {
         }
         found.or_else(|refused| {
             self.same()?;
-            Err(Failure::Refused(self.refusal(&refused)))
+            Err(Failure::Refused(refusal(self, &refused)))
         })
     }
 
@@ -252,31 +262,6 @@ impl Layers {
         let part = &self.parts[layer as usize];
         let own = &mut self.own.bytes_mut()[part.bytes.clone()];
         entries::copy_marker(&self.files[layer as usize], own, grain)
-    }
-
-    /// A refusal of the whole chain names no layer: the library says 0 there.
-    fn refusal(&self, refused: &ChainRefusal) -> Refusal {
-        let file = match refused.layer_at_fault() {
-            None if self.files.len() > 1 => None,
-            _ => Some(self.path(refused.layer)),
-        };
-        let mut refusal = Refusal::new(refused.refusal, file);
-        match refused.refusal.number {
-            20 => {
-                if let Ok(disk) = disk(self.bytes(0)) {
-                    refusal.detail = format!("the last sector is {}", disk.capacity - 1);
-                }
-            }
-            22 => {
-                let paths: Vec<_> = (0..self.files.len() as u64)
-                    .map(|layer| (self.path(layer), self.bytes(layer)))
-                    .collect();
-                refusal.detail = unlike(&paths);
-            }
-            24 => refusal.detail = format!("here are {}", self.files.len()),
-            _ => {}
-        }
-        refusal
     }
 
     /// Capacity and grain size, once the chain is known to have one of each.

@@ -9,7 +9,9 @@ use crate::json::Object;
 use crate::names;
 use crate::split::Split;
 use crate::still_open::OpenImages;
+use crate::stretch::Stretch;
 use anhkhovet::Located;
+use serde_json::Value;
 use std::path::{Path, PathBuf};
 
 pub enum Given {
@@ -36,6 +38,11 @@ impl Given {
         Given::of(paths, |disk| Split::at(disk, sector))?.remarked()
     }
 
+    /// For an answer on sectors in a row.
+    pub fn over(paths: &[PathBuf], stretch: Stretch) -> Result<Given, Failure> {
+        Given::of(paths, |disk| Split::over(disk, stretch))?.remarked()
+    }
+
     /// A descriptor is a disk where it is handed in alone. Among several files it is taken for a layer, and refused as one.
     fn of(
         paths: &[PathBuf],
@@ -51,12 +58,25 @@ impl Given {
         }
     }
 
-    /// Tells of the images that were still open before all else, so that it stands beside a refusal too.
+    /// Tells of the images that were still open, and of layers that are no parent and child, before all else: so it stands beside a
+    /// refusal too.
     fn remarked(self) -> Result<Given, Failure> {
         let open = self.open_images();
         self.same()?;
         open.note();
+        if let Given::Layers(layers) = &self {
+            layers.strangers().judged()?;
+        }
         Ok(self)
+    }
+
+    /// The members that say the same.
+    pub fn remarks(&self) -> Vec<(String, Value)> {
+        let mut members = self.open_images().members();
+        if let Given::Layers(layers) = self {
+            members.extend(layers.strangers().members());
+        }
+        members
     }
 
     pub fn open_images(&self) -> OpenImages {
@@ -86,6 +106,14 @@ impl Given {
         match self {
             Given::Layers(layers) => layers.same(),
             Given::Split(split) => split.same(),
+        }
+    }
+
+    /// Whether the disk has a sector, or the refusal.
+    pub fn holds(&mut self, sector: u64) -> Result<(), Failure> {
+        match self {
+            Given::Layers(layers) => layers.locate(sector).map(|_| ()),
+            Given::Split(split) => split.holds(sector),
         }
     }
 
@@ -174,12 +202,12 @@ impl Given {
         }
     }
 
-    /// The members that name the files, `files`, or `file` and `extents`, and those that say which images were still open.
+    /// The members that name the files, `files`, or `file` and `extents`, and the remarks.
     pub fn tell_files(&self, object: &mut Object) -> Result<(), Failure> {
         match self {
             Given::Layers(layers) => object.members(names::listed("files", layers.paths()))?,
             Given::Split(split) => split.tell_files(object)?,
         }
-        object.members(self.open_images().members())
+        object.members(self.remarks())
     }
 }

@@ -30,14 +30,13 @@ impl Grains {
         }
     }
 
-    /// Of extents in a row, at least one: the sectors of each, and its grain size if it is an image.
-    pub fn of_extents(extents: &[(u64, Option<u64>)]) -> Grains {
+    /// Of extents in a row from a first sector on, at least one: the sectors of each, and its grain size if it is an image.
+    pub fn of_extents(mut first: u64, extents: &[(u64, Option<u64>)]) -> Grains {
         let mut sizes = extents.iter().filter_map(|(_, size)| *size);
         let size = sizes
             .next()
             .filter(|first| sizes.all(|size| size == *first));
         let mut parts = Vec::new();
-        let mut first = 0;
         for (sectors, own) in extents {
             let end = first + sectors;
             let size = own.or(size).unwrap_or(PIECE);
@@ -51,6 +50,7 @@ impl Grains {
         }
     }
 
+    /// One more than the last sector.
     pub fn capacity(&self) -> u64 {
         self.parts.last().map_or(0, |part| part.end)
     }

@@ -67,6 +67,15 @@ impl Piece {
         matches!(self.content, Content::Packed(_))
     }
 
+    /// How many bytes the digest of a line is of.
+    pub fn digested(&self, grains: bool) -> u64 {
+        match &self.content {
+            Content::Packed(_) => self.length(),
+            _ if grains => self.sectors * SECTOR,
+            _ => SECTOR,
+        }
+    }
+
     /// The bytes that are read for it.
     pub fn length(&self) -> u64 {
         match &self.content {

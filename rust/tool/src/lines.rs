@@ -2,7 +2,7 @@
 
 use crate::cli::stream;
 use crate::failure::Failure;
-use crate::hash::Hash;
+use crate::formats::{self, Columns, Line};
 use crate::streams;
 use std::fs::{File, OpenOptions};
 use std::io::{self, BufRead, BufReader, Read};
@@ -17,16 +17,9 @@ const LONGEST: usize = 1 << 16;
 /// Some programs begin a text with it.
 const BYTE_ORDER_MARK: &[u8] = b"\xef\xbb\xbf";
 
-/// What a line says: the digest of a sector, or of the packed grain that begins there.
-pub struct Listed {
-    pub sector: u64,
-    pub hash: Hash,
-    pub packed: bool,
-}
-
 /// What a line is, if it is not empty and no comment.
 pub enum Content {
-    Entry(Listed),
+    Entry(Line),
     /// Of another form.
     Malformed,
     /// No line of text: what comes after it is of no use.
@@ -38,6 +31,8 @@ pub struct Lines {
     from: BufReader<File>,
     line: Vec<u8>,
     pub number: u64,
+    /// Of a hashdeep list.
+    columns: Option<Columns>,
 }
 
 impl Lines {
@@ -53,6 +48,7 @@ impl Lines {
             from: BufReader::new(file.map_err(Failure::system(path, "cannot be opened"))?),
             line: Vec::new(),
             number: 0,
+            columns: None,
         })
     }
 
@@ -72,7 +68,7 @@ impl Lines {
             if self.number == 1 {
                 line = line.strip_prefix(BYTE_ORDER_MARK).unwrap_or(line);
             }
-            if let Some(content) = content(line) {
+            if let Some(content) = content(line, &mut self.columns) {
                 return Ok(Some(content));
             }
         }
@@ -96,7 +92,7 @@ fn at_once(path: &Path) -> io::Result<File> {
     Ok(file)
 }
 
-fn content(line: &[u8]) -> Option<Content> {
+fn content(line: &[u8], columns: &mut Option<Columns>) -> Option<Content> {
     if line.len() == LONGEST && !line.ends_with(b"\n") {
         return Some(Content::Binary);
     }
@@ -104,7 +100,11 @@ fn content(line: &[u8]) -> Option<Content> {
     if line.is_empty() || line.starts_with(b"#") {
         return None;
     }
-    Some(match entry(line) {
+    if let Some(named) = Columns::of(line) {
+        *columns = Some(named);
+        return None;
+    }
+    Some(match formats::line(line, columns.as_ref()) {
         Some(entry) => Content::Entry(entry),
         None if is_text(line) => Content::Malformed,
         None => Content::Binary,
@@ -123,37 +123,4 @@ fn trimmed(line: &[u8]) -> &[u8] {
     start
         .zip(end)
         .map_or(&[], |(start, end)| &line[start..=end])
-}
-
-/// Number and digest, parted by blanks or a comma, and maybe the word `packed`.
-fn entry(line: &[u8]) -> Option<Listed> {
-    let mut words = line
-        .split(|byte| matches!(byte, b',' | b' ' | b'\t'))
-        .filter(|word| !word.is_empty());
-    let sector = str::from_utf8(words.next()?).ok()?.parse().ok()?;
-    let hash = hash(words.next()?)?;
-    let packed = match words.next() {
-        None => false,
-        Some(b"packed") => true,
-        Some(_) => return None,
-    };
-    let entry = Listed {
-        sector,
-        hash,
-        packed,
-    };
-    Some(entry).filter(|_| words.next().is_none())
-}
-
-/// A digest of 64 hex digits, great or small.
-fn hash(digits: &[u8]) -> Option<Hash> {
-    let mut hash = Hash::default();
-    if digits.len() != 2 * hash.len() {
-        return None;
-    }
-    let value = |digit: u8| char::from(digit).to_digit(16);
-    for (byte, pair) in hash.iter_mut().zip(digits.chunks_exact(2)) {
-        *byte = (value(pair[0])? << 4 | value(pair[1])?) as u8;
-    }
-    Some(hash)
 }

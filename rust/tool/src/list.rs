@@ -1,6 +1,6 @@
 //! `digest --list`: an image compared with a list of digests, line by line.
 
-use crate::batch::{Batch, Found, Item, Reader};
+use crate::batch::{Batch, Found, Item, Listed, Reader};
 use crate::cores::in_order;
 use crate::difference::{Difference, Fault};
 use crate::failure::{Failure, Status};
@@ -8,11 +8,12 @@ use crate::files::same;
 use crate::given::Given;
 use crate::grains::Grains;
 use crate::hash::Hasher;
-use crate::lines::Listed;
 use crate::named::Named;
 use crate::names;
 use crate::print::{self, Printer};
 use crate::progress::Progress;
+use crate::stretch::Stretch;
+use std::ops::Range;
 use std::path::PathBuf;
 
 /// What to compare with, and how.
@@ -21,6 +22,8 @@ pub struct Asked {
     pub grains: bool,
     /// Whether what the list leaves out is a failure.
     pub complete: bool,
+    /// The sectors that are compared.
+    pub stretch: Stretch,
 }
 
 /// Takes a line that does not hold.
@@ -32,7 +35,8 @@ struct Comparison<'a> {
     cut: &'a Grains,
     /// Sectors of what a line tells: of a grain, if grains are compared.
     unit: u64,
-    /// Sectors of the disk or, if grains are compared, grains.
+    /// What is compared, and how many sectors of it there are or, if grains are compared, grains.
+    range: Range<u64>,
     units: u64,
     named: Named,
     lines: u64,
@@ -40,15 +44,15 @@ struct Comparison<'a> {
 }
 
 impl<'a> Comparison<'a> {
-    fn of(cut: &'a Grains, asked: &'a Asked) -> Comparison<'a> {
+    fn of(cut: &'a Grains, range: Range<u64>, asked: &'a Asked) -> Comparison<'a> {
         let unit = cut.size().filter(|_| asked.grains).unwrap_or(1);
-        let units = (cut.capacity() + unit - 1) / unit;
         Comparison {
             asked,
             cut,
             unit,
-            units,
-            named: Named::below(units),
+            units: (range.end - 1) / unit - range.start / unit + 1,
+            named: Named::below(range.end / unit + 1),
+            range,
             lines: 0,
             failed: 0,
         }
@@ -59,7 +63,8 @@ impl<'a> Comparison<'a> {
         let grains = self.asked.grains;
         let files = given.files();
         let mut progress = Some(Progress::start("comparing", 0));
-        let mut reader = Reader::open(given, self.cut, grains, &self.asked.list)?;
+        let range = self.range.clone();
+        let mut reader = Reader::open(given, self.cut, grains, range, &self.asked.list)?;
         in_order(
             || reader.next(),
             |batch| {
@@ -114,6 +119,8 @@ impl<'a> Comparison<'a> {
             Some(Fault::Packed(found.first))
         } else if listed.packed && !found.packed {
             Some(Fault::Open)
+        } else if let Some(bytes) = listed.bytes.filter(|bytes| *bytes != found.bytes) {
+            Some(Fault::Size(bytes, found.bytes))
         } else if listed.hash != found.hash {
             let [listed, found] = [listed.hash, found.hash].map(|hash| names::hex(&hash));
             Some(Fault::Digest(listed, found))
@@ -122,16 +129,19 @@ impl<'a> Comparison<'a> {
         }
     }
 
-    /// Whether a sector was not named before. The line of a packed grain names all sectors of it.
+    /// Whether a sector was not named before. The line of a packed grain names all sectors of it that are compared.
     fn name(&mut self, sector: u64, packed: bool) -> bool {
-        let new = self.named.mark(sector / self.unit);
-        if packed && !self.asked.grains {
-            let end = self.cut.around(sector).end;
-            (sector + 1..end).for_each(|sector| {
-                self.named.mark(sector);
-            });
+        if self.asked.grains {
+            return self.named.mark(sector / self.unit);
         }
-        new
+        let end = match packed {
+            true => self.cut.around(sector).end,
+            false => sector + 1,
+        };
+        let compared = sector.max(self.range.start)..end.min(self.range.end);
+        // Whether the first of them is new tells it of all.
+        let new = compared.map(|sector| self.named.mark(sector));
+        new.reduce(|first, _| first).unwrap_or(true)
     }
 
     fn left_out(&self) -> u64 {
@@ -157,10 +167,14 @@ impl<'a> Comparison<'a> {
             0 => format!("all {lines} digests agree"),
             _ => format!("{failed} of {lines} lines fail"),
         };
+        let of = match self.range == (0..self.cut.capacity()) {
+            true => "the disk's",
+            false => "the stretch's",
+        };
         let left = match self.left_out() {
-            0 => format!("none of the disk's {units} {unit}s is left out"),
-            1 => format!("1 of the disk's {units} {unit}s is left out"),
-            left => format!("{left} of the disk's {units} {unit}s are left out"),
+            0 => format!("none of {of} {units} {unit}s is left out"),
+            1 => format!("1 of {of} {units} {unit}s is left out"),
+            left => format!("{left} of {of} {units} {unit}s are left out"),
         };
         let incomplete = if self.asked.complete && self.left_out() > 0 {
             ", so it is not complete"
@@ -175,13 +189,14 @@ impl<'a> Comparison<'a> {
 pub fn compare(paths: &[PathBuf], asked: &Asked, json: bool) -> Result<(), Failure> {
     let mut given = Given::open(paths)?;
     let cut = given.cut(asked.grains)?;
-    let mut comparison = Comparison::of(&cut, asked);
+    let range = asked.stretch.on(&mut given, cut.capacity())?;
+    let mut comparison = Comparison::of(&cut, range, asked);
     if json {
         print::members(|object| {
             object.list("differences", |take| {
                 comparison.run(&mut given, &mut |difference| take(&difference.object()))
             })?;
-            object.members(given.open_images().members())?;
+            object.members(given.remarks())?;
             object.member("agree", &comparison.holds())?;
             object.member("compared", &comparison.lines)?;
             object.member("disk", &comparison.units)?;

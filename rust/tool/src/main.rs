@@ -17,6 +17,7 @@ mod coverage;
 mod cowd;
 mod describe;
 mod described;
+mod descriptor;
 mod difference;
 mod differing;
 mod digest;
@@ -24,9 +25,11 @@ mod entries;
 mod failure;
 mod files;
 mod folder;
+mod formats;
 mod frame;
 mod front;
 mod given;
+mod grading;
 mod grains;
 mod guard;
 mod hash;
@@ -48,16 +51,21 @@ mod mended;
 mod moves;
 mod named;
 mod names;
+mod numbers;
 mod output;
 mod own;
+mod parents;
 mod picture;
 mod place;
 mod print;
 mod profile;
 mod progress;
+mod raw;
 mod refusals;
 mod reports;
 mod room;
+mod row;
+mod runs;
 mod sector;
 mod signals;
 mod source;
@@ -65,16 +73,18 @@ mod split;
 mod start;
 mod still_open;
 mod streams;
+mod stretch;
 mod survey;
 mod table;
 mod text;
 mod unmendable;
 mod verdicts;
+mod whole;
 mod worker;
 mod write;
 mod writeback;
 
-use cli::{Stop, Task};
+use cli::{Asked, Stop, Task};
 use failure::{Failure, Status};
 use std::process::exit;
 
@@ -85,14 +95,23 @@ fn run(task: Task, json: bool) -> Result<(), Failure> {
         Task::Survey(files) => survey::survey(&files, json),
         Task::Sector(files, sector) => sector::sector(&files, sector, json),
         Task::Read(files, sector, target) => sector::read(&files, sector, target, json),
+        Task::ReadRow(files, stretch, target) => row::read(&files, stretch, target, json),
         Task::Map(files) => map::map(&files, json),
         Task::Coverage(files) => coverage::coverage(&files, json),
-        Task::Digest(files, grains) => digest::print(&files, grains, json),
+        Task::Digest(files, asked) => digest::print(&files, &asked, json),
+        Task::Whole(files, asked) => whole::whole(&files, &asked, json),
         Task::Compare(files, asked) => list::compare(&files, &asked, json),
-        Task::Collapse(files, target) => write::collapse(&files, &target, json),
-        Task::Normal(file, target) => write::normal(&file, &target, json),
+        Task::Raw(files, target) => raw::raw(&files, &target, json),
+        Task::Collapse(files, target, descriptor) => {
+            write::collapse(&files, &target, descriptor.as_deref(), json)
+        }
+        Task::Normal(file, target, descriptor) => {
+            write::normal(&file, &target, descriptor.as_deref(), json)
+        }
         Task::Mend(asked) => mend::mend(&asked, json),
-        Task::Move(files, target) => moves::run(&files, &target, json),
+        Task::Move(files, target, descriptor) => {
+            moves::run(&files, &target, descriptor.as_deref(), json)
+        }
         Task::Close(file, target) => close::close(&file, &target, json),
         Task::Picture(files, target) => picture::picture(&files, &target, json),
         Task::Describe(file, sector) => describe::describe(&file, sector, json),
@@ -112,8 +131,9 @@ fn main() {
 /// From the command line to the status.
 fn command() -> i32 {
     let (ended, json) = match cli::parse() {
-        Ok((task, json)) => {
+        Ok(Asked { task, json, strict }) => {
             guard::owe_object(json);
+            parents::be_strict(strict);
             (run(task, json), json)
         }
         Err(Stop::Help(text)) => (print::text(&text), false),

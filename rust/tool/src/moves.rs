@@ -2,6 +2,7 @@
 
 use crate::cli::Target;
 use crate::cowd::Cowd;
+use crate::descriptor::{self, Beside};
 use crate::failure::{Failure, Refusal, Status};
 use crate::files::{same, Files, Layers};
 use crate::given::Given;
@@ -26,6 +27,8 @@ const NOT_TAKEN: u64 = 23;
 const NOT_MOVABLE: u64 = 44;
 
 const NO_FOLDER: &str = "is not a folder that is there, and several files are to be written";
+const ONE_DESCRIPTOR: &str = "is the name of one descriptor, and several files are to be written";
+const TO_COWD: &str = "goes to COWD, and a descriptor is written of what goes to KDMV alone";
 const ONE_NAME: &str =
     "has the name of another one of the files, and both would be written to one output";
 
@@ -35,6 +38,8 @@ struct Moved {
     length: u64,
     /// SHA-256 of all sectors in order, absent ones as zeros.
     digest: String,
+    /// Its descriptor's path, if it got one.
+    descriptor: Option<PathBuf>,
 }
 
 /// By the file's own kind. What is neither is refused by either call.
@@ -126,11 +131,20 @@ fn hashed(
     Ok(digits.iter().map(|&digit| char::from(digit)).collect())
 }
 
-/// One image, of all that are read.
-fn moved(path: &Path, target: &Target, inputs: &[PathBuf]) -> Result<Moved, Failure> {
+/// One image, of all that are read, and its descriptor if that has a name.
+fn moved(
+    path: &Path,
+    target: &Target,
+    descriptor: Option<&Path>,
+    inputs: &[PathBuf],
+) -> Result<Moved, Failure> {
     let mut image = Layers::to_move(Layer::open(path)?)?;
     let output = Output::create(target, inputs)?;
     let kind = way(image.bytes(0));
+    if kind == Kind::Cowd && descriptor.is_some() {
+        return Err(Failure::Misused(path.to_path_buf(), TO_COWD));
+    }
+    let beside = Beside::create(descriptor, target, inputs)?;
     judged(&mut image, kind)?;
     let mut mapped = mapped(kind, output, &[&image])?;
     let written = lent::moved(kind, &Lent::of(&image)?, &mut mapped.map);
@@ -139,11 +153,11 @@ fn moved(path: &Path, target: &Target, inputs: &[PathBuf]) -> Result<Moved, Fail
     let output = mapped.cut(length)?;
     let result = Layer::of(&target.path, output.file()?)?;
     let digest = digest(kind, Layers::to_move(result)?)?;
-    output.finish()?;
     Ok(Moved {
         kind,
         length,
         digest,
+        descriptor: descriptor::finished(output, beside)?,
     })
 }
 
@@ -151,7 +165,14 @@ impl Moved {
     fn line(&self, path: &Path, to: &Path) -> String {
         let (kind, length, digest) = (self.kind.word(), self.length, &self.digest);
         let (from, to) = (name(path), name(to));
-        format!("{from}: moved to {kind}: {to}, {length} bytes, its sectors' digest {digest}\n")
+        let beside = self
+            .descriptor
+            .as_deref()
+            .map(|path| descriptor::line(path, &to));
+        let beside = beside.unwrap_or_default();
+        format!(
+            "{from}: moved to {kind}: {to}, {length} bytes, its sectors' digest {digest}\n{beside}"
+        )
     }
 
     fn object(&self, path: &Path, to: &Path) -> Value {
@@ -162,22 +183,31 @@ impl Moved {
         });
         put_name(&mut object, "file", path);
         put_name(&mut object, "output", to);
+        if let Some(path) = &self.descriptor {
+            put_name(&mut object, "descriptor", path);
+        }
         object
     }
 }
 
-pub fn run(paths: &[PathBuf], target: &Target, json: bool) -> Result<(), Failure> {
+pub fn run(
+    paths: &[PathBuf],
+    target: &Target,
+    descriptor: Option<&Path>,
+    json: bool,
+) -> Result<(), Failure> {
     let folder = target.path.is_dir();
-    match paths {
-        [path] if !folder => one(path, target, json),
+    match (paths, descriptor) {
+        ([path], _) if !folder => one(path, target, descriptor, json),
         _ if !folder => Err(Failure::Misused(target.path.clone(), NO_FOLDER)),
-        _ => Folder::of(paths, target)?.each(json),
+        ([_, _, ..], Some(name)) => Err(Failure::Misused(name.to_path_buf(), ONE_DESCRIPTOR)),
+        _ => Folder::of(paths, target, descriptor)?.each(json),
     }
 }
 
-fn one(path: &Path, target: &Target, json: bool) -> Result<(), Failure> {
+fn one(path: &Path, target: &Target, descriptor: Option<&Path>, json: bool) -> Result<(), Failure> {
     let progress = Progress::start("moving", 0);
-    let moved = moved(path, target, &[path.to_path_buf()])?;
+    let moved = moved(path, target, descriptor, &[path.to_path_buf()])?;
     drop(progress);
     print::answer(
         json,
@@ -190,10 +220,16 @@ fn one(path: &Path, target: &Target, json: bool) -> Result<(), Failure> {
 struct Folder<'a> {
     paths: &'a [PathBuf],
     targets: Vec<Target>,
+    /// Of a single file.
+    descriptor: Option<&'a Path>,
 }
 
 impl Folder<'_> {
-    fn of<'a>(paths: &'a [PathBuf], folder: &Target) -> Result<Folder<'a>, Failure> {
+    fn of<'a>(
+        paths: &'a [PathBuf],
+        folder: &Target,
+        descriptor: Option<&'a Path>,
+    ) -> Result<Folder<'a>, Failure> {
         let mut names = BTreeSet::new();
         let mut targets = Vec::new();
         for path in paths {
@@ -207,7 +243,11 @@ impl Folder<'_> {
                 force: folder.force,
             });
         }
-        Ok(Folder { paths, targets })
+        Ok(Folder {
+            paths,
+            targets,
+            descriptor,
+        })
     }
 
     /// Each file, whatever is wrong with another; the worst status of all.
@@ -252,7 +292,7 @@ impl Folder<'_> {
                 name(path)
             );
             let progress = Progress::start(&doing, 0);
-            let moved = moved(path, target, self.paths).map_err(hinted);
+            let moved = moved(path, target, self.descriptor, self.paths).map_err(hinted);
             drop(progress);
             if let Err(failure) = &moved {
                 print::note(&failure.to_string());

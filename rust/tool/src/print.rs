@@ -53,8 +53,13 @@ impl Write for Printer {
 
 /// A short answer: one or more whole lines.
 pub fn text(text: &str) -> Result<(), Failure> {
+    bytes(text.as_bytes())
+}
+
+/// The same as bytes.
+pub fn bytes(bytes: &[u8]) -> Result<(), Failure> {
     let mut printer = Printer::new();
-    printer.text(text)?;
+    printer.bytes(bytes)?;
     printer.done()
 }
 

@@ -69,7 +69,7 @@ pub fn object(given: &Given, sector: u64, found: &Located) -> Value {
         object["size"] = json!(size);
         object["offset"] = json!(offset);
     }
-    for (key, value) in given.open_images().members() {
+    for (key, value) in given.remarks() {
         object[key] = value;
     }
     object

@@ -9,6 +9,7 @@ use crate::json::Object;
 use crate::member::Member;
 use crate::names::{self, name};
 use crate::still_open::OpenImages;
+use crate::stretch::Stretch;
 use anhkhovet::Located;
 use serde_json::{json, Value};
 use std::iter::once;
@@ -38,15 +39,20 @@ impl Split {
 
     /// With the file of the extent alone that holds a sector: no other one is judged, nor need it be there.
     pub fn at(disk: Described, sector: u64) -> Result<Split, Failure> {
-        match anhkhovet::find(&disk.extents, sector) {
-            Ok(extent) => Split::of(disk, extent..extent + 1),
-            Err(why) => {
-                let mut refusal = Refusal::new(why, Some(&disk.file.path));
-                let end: u64 = disk.extents.iter().map(|extent| extent.sectors).sum();
-                refusal.detail = format!("the last sector is {}", end - 1);
-                Err(Failure::Refused(refusal))
-            }
-        }
+        let (first, count) = (sector, Some(1));
+        Split::over(disk, Stretch { first, count })
+    }
+
+    /// The same with the extents that hold a stretch.
+    pub fn over(disk: Described, stretch: Stretch) -> Result<Split, Failure> {
+        let first = found(&disk, stretch.first)?;
+        let last = found(&disk, stretch.last(capacity(&disk)))?;
+        Split::of(disk, first..last + 1)
+    }
+
+    /// Whether the disk has a sector, or the refusal.
+    pub fn holds(&self, sector: u64) -> Result<(), Failure> {
+        found(&self.disk, sector).map(|_| ())
     }
 
     fn of(disk: Described, extents: Range<usize>) -> Result<Split, Failure> {
@@ -95,7 +101,7 @@ impl Split {
         }
         let cut = |(member, _): &(Member, usize)| (member.sectors, member.grain_size());
         let extents: Vec<_> = self.members.iter().map(cut).collect();
-        Ok(Grains::of_extents(&extents))
+        Ok(Grains::of_extents(self.members[0].0.first, &extents))
     }
 
     /// Why there are no digests of grains.
@@ -187,6 +193,19 @@ impl Split {
         object.member("extents", &extents)?;
         names::member(object, "file", &self.disk.file.path)
     }
+}
+
+fn capacity(disk: &Described) -> u64 {
+    disk.extents.iter().map(|extent| extent.sectors).sum()
+}
+
+/// The extent that holds a sector, or the refusal.
+fn found(disk: &Described, sector: u64) -> Result<usize, Failure> {
+    anhkhovet::find(&disk.extents, sector).map_err(|why| {
+        let mut refusal = Refusal::new(why, Some(&disk.file.path));
+        refusal.detail = format!("the last sector is {}", capacity(disk) - 1);
+        Failure::Refused(refusal)
+    })
 }
 
 #[cfg(test)]

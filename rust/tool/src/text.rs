@@ -34,9 +34,13 @@ impl Text {
 
     /// Header and footer decide where the text is: nothing else is read.
     fn of_image(layer: &Layer) -> Result<Text, Failure> {
-        let own = ends(layer)?;
-        let header = anhkhovet::header(own.bytes()).map_err(Failure::refused(&layer.path))?;
-        let bytes = layer.part(inside(&layer.path, &header, own.bytes())?)?;
+        Text::inside(layer, ends(layer)?.bytes())
+    }
+
+    /// Of an image whose own bytes have these two.
+    pub fn inside(layer: &Layer, own: &[u8]) -> Result<Text, Failure> {
+        let header = anhkhovet::header(own).map_err(Failure::refused(&layer.path))?;
+        let bytes = layer.part(inside(&layer.path, &header, own)?)?;
         let image = Some(header);
         Ok(Text { bytes, image })
     }

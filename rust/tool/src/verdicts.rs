@@ -160,7 +160,7 @@ impl Verdicts {
     fn accepted(&self) -> Value {
         let sizes = self.all.iter().flat_map(|judged| &judged.verdict);
         let sectors = self.disk.extents.iter().map(|extent| extent.sectors);
-        let cut = Grains::of_extents(&sectors.zip(sizes.copied()).collect::<Vec<_>>());
+        let cut = Grains::of_extents(0, &sectors.zip(sizes.copied()).collect::<Vec<_>>());
         json!({ "accepted": { "capacity": cut.capacity(), "grain_size": cut.size() } })
     }
 }

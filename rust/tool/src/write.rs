@@ -4,12 +4,14 @@
 
 use crate::alike::unlike;
 use crate::cli::Target;
+use crate::descriptor::{self, Beside};
 use crate::failure::{Failure, Refusal, Status};
 use crate::files::Layers;
 use crate::hint::NOT_READ;
 use crate::lent::{self, Lent};
 use crate::names::{name, put_name};
 use crate::output::{Mapped, Output};
+use crate::parents::Strangers;
 use crate::print;
 use crate::progress::Progress;
 use crate::room::{Kind, Room};
@@ -38,21 +40,46 @@ pub fn mapped(kind: Kind, output: Output, images: &[&Layers]) -> Result<Mapped, 
     output.map(length)
 }
 
-fn told(target: &Target, length: u64, json: bool) -> Result<(), Failure> {
+/// Tells of what was written, and of layers that are strangers.
+fn told(
+    target: &Target,
+    length: u64,
+    descriptor: Option<&Path>,
+    strangers: &Strangers,
+    json: bool,
+) -> Result<(), Failure> {
     print::answer(
         json,
-        || format!("{}: written, {length} bytes\n", name(&target.path)),
+        || {
+            let result = name(&target.path);
+            let beside = descriptor.map(|path| descriptor::line(path, &result));
+            let beside = beside.unwrap_or_default();
+            format!("{result}: written, {length} bytes\n{beside}")
+        },
         || {
             let mut object = json!({ "length": length });
             put_name(&mut object, "output", &target.path);
+            if let Some(path) = descriptor {
+                put_name(&mut object, "descriptor", path);
+            }
+            for (key, value) in strangers.members() {
+                object[key] = value;
+            }
             object
         },
     )
 }
 
-pub fn normal(path: &Path, target: &Target, json: bool) -> Result<(), Failure> {
+pub fn normal(
+    path: &Path,
+    target: &Target,
+    descriptor: Option<&Path>,
+    json: bool,
+) -> Result<(), Failure> {
     let mut image = Layers::one(path)?;
-    let output = Output::create(target, &[path.to_path_buf()])?;
+    let inputs = [path.to_path_buf()];
+    let output = Output::create(target, &inputs)?;
+    let beside = Beside::create(descriptor, target, &inputs)?;
     let progress = Progress::start("writing the normal form", 0);
     let asked = image.ask(0, |bytes| anhkhovet::normal(bytes, &mut []))?;
     if let Some(why) = refusal(asked) {
@@ -63,9 +90,15 @@ pub fn normal(path: &Path, target: &Target, json: bool) -> Result<(), Failure> {
     let written = lent::normal(&Lent::of(&image)?, &mut mapped.map);
     image.same()?;
     let length = written.map_err(Failure::refused(path))?;
-    mapped.cut(length)?.finish()?;
+    let descriptor = descriptor::finished(mapped.cut(length)?, beside)?;
     drop(progress);
-    told(target, length, json)
+    told(
+        target,
+        length,
+        descriptor.as_deref(),
+        &Strangers::default(),
+        json,
+    )
 }
 
 /// Whose refusal it is: the library judges the lower image, then the upper one, and tells only the number.
@@ -128,10 +161,25 @@ fn merged(lower: &Layers, upper: &Layers, output: Output) -> Result<(Output, u64
     Ok((mapped.cut(length)?, length))
 }
 
-pub fn collapse(paths: &[PathBuf], target: &Target, json: bool) -> Result<(), Failure> {
+/// The layers that are no parent and child by their texts, told before all else.
+fn strangers(images: &[Layers]) -> Result<Strangers, Failure> {
+    let strangers = Strangers::among(&images.iter().collect::<Vec<_>>());
+    images.iter().try_for_each(Layers::same)?;
+    strangers.judged()?;
+    Ok(strangers)
+}
+
+pub fn collapse(
+    paths: &[PathBuf],
+    target: &Target,
+    descriptor: Option<&Path>,
+    json: bool,
+) -> Result<(), Failure> {
     let images = paths.iter().map(|path| Layers::one(path));
     let mut images = images.collect::<Result<Vec<Layers>, Failure>>()?;
+    let strangers = strangers(&images)?;
     let mut output = Output::create(target, paths)?;
+    let beside = Beside::create(descriptor, target, paths)?;
     let progress = Progress::start("collapsing", 0);
     judged(&mut images)?;
     // From the top down, so that the base, which is often by far the longest, is copied once. The bytes are the same.
@@ -141,9 +189,9 @@ pub fn collapse(paths: &[PathBuf], target: &Target, json: bool) -> Result<(), Fa
     while let Some(lower) = images.pop() {
         let (merged, length) = merged(&lower, &upper, output)?;
         if images.is_empty() {
-            merged.finish()?;
+            let descriptor = descriptor::finished(merged, beside)?;
             drop(progress);
-            return told(target, length, json);
+            return told(target, length, descriptor.as_deref(), &strangers, json);
         }
         upper = Layers::of_file(&target.path, merged.file()?)?;
         _between = Some(merged);

@@ -157,14 +157,14 @@ fn a_refusal_stands_beside_it() {
 
 #[test]
 fn each_open_layer_is_named() {
-    let folder = Folder::new().with(&SAMPLES);
+    let folder = Folder::new().with(&SAMPLES).with(&["tool-top.vmdk"]);
     dirty::add(&folder);
     for (layers, open) in [
         ("tool-base.vmdk tool-middle.vmdk", vec![]),
         ("open-base tool-middle.vmdk", vec!["open-base"]),
         ("tool-base.vmdk open-middle", vec!["open-middle"]),
         (
-            "open-255 tool-middle.vmdk open-middle",
+            "open-255 open-middle tool-top.vmdk",
             vec!["open-255", "open-middle"],
         ),
     ] {
