@@ -5,18 +5,18 @@ use crate::descriptor::{self, Beside};
 use crate::failure::{Failure, Refusal, Status};
 use crate::files::Layers;
 use crate::given::Given;
-use crate::hash::{digits, Hasher, Piece};
+use crate::hash::Piece;
 use crate::hint::hinted;
 use crate::lent::{self, Lent};
-use crate::names::{name, put_name};
+use crate::names::{hex, name, put_name};
 use crate::output::Output;
 use crate::print;
 use crate::progress::Progress;
 use crate::room::Kind;
+use crate::whole::hashed;
 use crate::write::{mapped, refusal};
 use anhkhovet::Source;
 use serde_json::{json, Value};
-use sha2::{Digest, Sha256};
 use std::collections::BTreeSet;
 use std::path::{Path, PathBuf};
 
@@ -86,18 +86,11 @@ fn unmovable(image: &[u8]) -> String {
 fn digest(image: Layers) -> Result<String, Failure> {
     let mut given = Given::Layers(image);
     let cut = given.grains()?;
-    let files = given.files();
-    let mut hasher = Hasher::new(&files);
-    let mut hash = Sha256::new();
-    let mut first = 0;
-    while first < cut.capacity() {
-        let sectors = cut.around(first).end - first;
-        hasher.add(&Piece::of(&mut given, first, sectors)?, &mut hash)?;
-        first += sectors;
-    }
+    let hash = hashed(&given.files(), &cut, |first, sectors| {
+        Piece::of(&mut given, first, sectors)
+    })?;
     given.same()?;
-    let digits = digits(&hash.finalize().into());
-    Ok(digits.iter().map(|&digit| char::from(digit)).collect())
+    Ok(hex(&hash))
 }
 
 /// One image, of all that are read, and its descriptor if that has a name.
