@@ -7,19 +7,19 @@ use crate::failure::{Failure, Refusal, Status};
 use crate::files::{same, Files, Layers};
 use crate::given::Given;
 use crate::grains::Grains;
-use crate::hash::{digits, Hasher, Piece};
+use crate::hash::Piece;
 use crate::hint::hinted;
 use crate::layer::Layer;
 use crate::lent::{self, Lent};
-use crate::names::{name, put_name};
+use crate::names::{hex, name, put_name};
 use crate::output::Output;
 use crate::print;
 use crate::progress::Progress;
 use crate::room::Kind;
+use crate::whole::hashed;
 use crate::write::{mapped, refusal};
 use anhkhovet::Source;
 use serde_json::{json, Value};
-use sha2::{Digest, Sha256};
 use std::collections::BTreeSet;
 use std::path::{Path, PathBuf};
 
@@ -92,7 +92,7 @@ fn unmovable(image: &[u8]) -> String {
 /// are judged as they are read back.
 fn digest(kind: Kind, mut result: Layers) -> Result<String, Failure> {
     let files = result.files();
-    let digest = match kind {
+    let hash = match kind {
         Kind::Cowd => {
             judged(&mut result, Kind::Kdmv)?;
             let changed = || Failure::changed(result.path(0));
@@ -110,25 +110,7 @@ fn digest(kind: Kind, mut result: Layers) -> Result<String, Failure> {
         }
     };
     same(&files)?;
-    Ok(digest)
-}
-
-/// The digest of all pieces, which are grains or the last one's part.
-fn hashed(
-    files: &Files,
-    cut: &Grains,
-    mut piece: impl FnMut(u64, u64) -> Result<Piece, Failure>,
-) -> Result<String, Failure> {
-    let mut hasher = Hasher::new(files);
-    let mut hash = Sha256::new();
-    let mut first = 0;
-    while first < cut.capacity() {
-        let sectors = cut.around(first).end - first;
-        hasher.add(&piece(first, sectors)?, &mut hash)?;
-        first += sectors;
-    }
-    let digits = digits(&hash.finalize().into());
-    Ok(digits.iter().map(|&digit| char::from(digit)).collect())
+    Ok(hex(&hash))
 }
 
 /// One image, of all that are read, and its descriptor if that has a name.

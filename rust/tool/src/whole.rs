@@ -2,6 +2,7 @@
 
 use crate::difference::{Difference, Fault};
 use crate::failure::{Failure, Status};
+use crate::files::Files;
 use crate::formats::{self, Format, Name};
 use crate::given::Given;
 use crate::grains::Grains;
@@ -31,22 +32,33 @@ pub fn unpacked(given: &mut Given, sector: u64) -> Result<Located, Failure> {
     }
 }
 
-/// The digest, if the files are unchanged.
-pub fn digest(given: &mut Given, cut: &Grains) -> Result<Hash, Failure> {
-    let files = given.files();
-    let progress = Progress::start("digesting", cut.capacity());
-    let mut hasher = Hasher::new(&files);
+/// The digest of all pieces, each of them a grain, or the last one's part.
+pub fn hashed(
+    files: &Files,
+    cut: &Grains,
+    mut piece: impl FnMut(u64, u64) -> Result<Piece, Failure>,
+) -> Result<Hash, Failure> {
+    let mut hasher = Hasher::new(files);
     let mut hash = Sha256::new();
     let mut first = 0;
     while first < cut.capacity() {
-        unpacked(given, first)?;
         let sectors = cut.around(first).end - first;
-        hasher.add(&Piece::of(given, first, sectors)?, &mut hash)?;
+        hasher.add(&piece(first, sectors)?, &mut hash)?;
         first += sectors;
-        progress.at(first);
     }
-    given.same()?;
     Ok(hash.finalize().into())
+}
+
+/// The digest, if the files are unchanged.
+fn digest(given: &mut Given, cut: &Grains) -> Result<Hash, Failure> {
+    let progress = Progress::start("digesting", cut.capacity());
+    let hash = hashed(&given.files(), cut, |first, sectors| {
+        progress.at(first);
+        unpacked(given, first)?;
+        Piece::of(given, first, sectors)
+    })?;
+    given.same()?;
+    Ok(hash)
 }
 
 /// How the digest is told, or the list that it is compared with.
