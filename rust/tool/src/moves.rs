@@ -4,7 +4,7 @@ use crate::cli::Target;
 use crate::cowd::Cowd;
 use crate::descriptor::{self, Beside};
 use crate::failure::{Failure, Refusal, Status};
-use crate::files::{same, Files, Layers};
+use crate::files::{same, Layers};
 use crate::given::Given;
 use crate::grains::Grains;
 use crate::hash::Piece;
