@@ -138,7 +138,7 @@ impl<'a> Reader<'a> {
             (Name::Sector(_), _) => Err(Fault::Unit("a sector", compared)),
             (Name::Grain(_), _) => Err(Fault::Unit("a grain", compared)),
             (Name::Disk, _) => Err(Fault::Unit("the whole disk", compared)),
-            (Name::Other, _) => Err(Fault::Form),
+            (Name::Other, _) => Err(Fault::Unit("another file", compared)),
         }
     }
 

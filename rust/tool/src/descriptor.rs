@@ -1,4 +1,4 @@
-//! `--descriptor`: a text beside a result. Results have none inside, by the rules, and other programs open an image by its text.
+//! `--descriptor`: a text beside a result. Results have none inside, by the rules, and other programs open an image by one.
 
 use crate::alike::disk;
 use crate::beside::plain_name;
@@ -22,7 +22,7 @@ pub struct Beside {
     result: PathBuf,
 }
 
-/// The text of a disk of so many sectors, all in one sparse file. The type is the one for which qemu-img looks for a file beside.
+/// The text of a disk of so many sectors, all in one sparse file. The type is the one for which qemu-img reads a text beside.
 fn text(sectors: u64, name: &[u8]) -> Vec<u8> {
     let mut text = b"# Disk DescriptorFile\nversion=1\nCID=fffffffe\nparentCID=ffffffff\n\
         createType=\"twoGbMaxExtentSparse\"\n\n# Extent description\n"

@@ -1,5 +1,5 @@
-//! The forms of a list of digests: our own, that of sha256sum and that of hashdeep. The latter two name files, as `split` names the
-//! parts that it cuts a raw disk into.
+//! The forms of a list of digests: our own, that of sha256sum and that of hashdeep. The latter two name files, as `split` names
+//! the parts that it cuts a raw disk into.
 
 use crate::hash::{digits, Hash};
 use crate::numbers::number;
@@ -39,7 +39,7 @@ pub struct Line {
     pub bytes: Option<u64>,
 }
 
-/// The columns of a hashdeep list: which one is the size, which one the digest, and how many there are. The last one is the name.
+/// The columns of a hashdeep list: which one is the size, which one the digest, and how many there are. The last has the name.
 pub struct Columns {
     size: Option<usize>,
     digest: Option<usize>,

@@ -1,5 +1,5 @@
-//! Layers whose own texts say that they are no parent and child: the upper one's parentCID is not the lower one's CID. The rules of a
-//! chain take layers in any order, so every answer is what it would be else, and this is told beside it.
+//! Layers whose own texts say that they are no parent and child: the upper one's parentCID is not the lower one's CID. The
+//! rules of a chain take layers in any order, so every answer is what it would be else, and this is told beside it.
 
 use crate::failure::Failure;
 use crate::files::Layers;

@@ -7,6 +7,7 @@ mod outsiders;
 use common::{run, Folder, Ran};
 use outsiders::{ran, there};
 use std::fs;
+use std::ops::Range;
 
 const IMAGE: &str = "tool-base.vmdk";
 const PACKED: &str = "tool-packed.vmdk";
@@ -101,6 +102,14 @@ fn lines_have_the_names_that_are_promised() {
     assert_eq!(named, [("65536", "grain-0000000000"), (size, digest)]);
 }
 
+/// The sectors of a line of our own form.
+fn sectors(line: &str, grains: bool) -> Range<u64> {
+    let (sector, rest) = line.split_once(' ').expect("two words");
+    let first = sector.parse().expect("a number");
+    let whole = grains || rest.ends_with("packed");
+    first..first + if whole { 128 } else { 1 }
+}
+
 /// Stretches: the lines of all that has a sector in them.
 #[test]
 fn a_stretch_has_the_lines_of_its_sectors() {
@@ -119,26 +128,12 @@ fn a_stretch_has_the_lines_of_its_sectors() {
             for (first, count) in stretches {
                 let words = [first, count].map(|number: u64| number.to_string());
                 let stretch = ["--first", &words[0], "--count", &words[1]];
-                let wanted: Vec<&str> = all
-                    .lines()
-                    .filter(|line| {
-                        let sector: u64 = line
-                            .split(' ')
-                            .next()
-                            .expect("a word")
-                            .parse()
-                            .expect("a number");
-                        let whole = !more.is_empty() || line.ends_with("packed");
-                        let end = sector + if whole { 128 } else { 1 };
-                        sector < first + count && first < end
-                    })
-                    .collect();
+                let wanted = all.lines().filter(|line| {
+                    let sectors = sectors(line, !more.is_empty());
+                    sectors.start < first + count && first < sectors.end
+                });
                 let lines = listed(&folder, image, &[more, &stretch[..]].concat());
-                assert_eq!(
-                    lines.lines().collect::<Vec<_>>(),
-                    wanted,
-                    "{image} {stretch:?}"
-                );
+                assert!(wanted.eq(lines.lines()), "{image} {stretch:?}: {lines}");
             }
         }
         let rest = listed(&folder, image, &["--first", "2046"]);
@@ -194,11 +189,16 @@ fn lines_that_do_not_hold_are_told() {
             "list: line 5 names the whole disk, and here sectors are compared",
             "list: line 6: sector 2048 is past the end of the disk, whose last is 2047",
             &format!("list: line 7: sector 0 differs: the list has {ZEROS}, the image {a}"),
-            "list: line 8 is not of the form: sector, digest",
+            "list: line 8 names another file, and here sectors are compared",
             "list: line 9 is not of the form: sector, digest",
             "list: 6 of 9 lines fail; 2044 of the disk's 2048 sectors are left out",
         ],
     );
+}
+
+#[test]
+fn columns_of_hashdeep_are_told_apart() {
+    let folder = Folder::new().with(&[IMAGE]);
     let sizes = format!(
         "%%%% HASHDEEP-1.0\n%%%% size,md5,sha256,filename\n## a, comment\n512,00,{ZEROS},/a,b/sector-0000000300\n\
          1024,00,{ZEROS},sector-0000000301\n512,{ZEROS},sector-0000000302\n"
@@ -216,6 +216,11 @@ fn lines_that_do_not_hold_are_told() {
         format!("%%%% HASHDEEP-1.0\n%%%% size,md5,filename\n512,{ZEROS},sector-0000000300\n");
     assert_eq!(compare(&folder, IMAGE, &other, &[]).status, Some(3));
     compare(&folder, IMAGE, &format!("0x12c {ZEROS}\n"), &[]).well();
+}
+
+#[test]
+fn a_whole_disk_is_compared_with_lines_of_disks_alone() {
+    let folder = Folder::new().with(&[IMAGE]);
     let whole = format!("{ZEROS}  sector-0000000300\n{ZEROS}  raw.img\n");
     let ran = compare(&folder, IMAGE, &whole, &["--whole", "--json"]);
     let said: serde_json::Value = serde_json::from_slice(&ran.out).expect("an object");

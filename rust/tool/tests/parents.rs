@@ -1,4 +1,4 @@
-//! Layers whose texts say that they are no parent and child: told by every command that takes a chain, and with --strict a failure.
+//! Layers whose texts say that they are no parent and child: told by each command that takes a chain, a failure with --strict.
 
 mod common;
 

@@ -6,8 +6,8 @@ use std::fs;
 use std::path::Path;
 use std::process::Command;
 
-/// Whether a program is here, by a shell: under an emulator one that is not still seems to start. Where the gate has installed it,
-/// it says so by this variable, and then no test may be left out for want of it.
+/// Whether a program is here, by a shell: under an emulator one that is not still seems to start. Where the gate has installed
+/// it, it says so by this variable, and then no test may be left out for want of it.
 pub fn there(program: &str, promised: &str) -> bool {
     let found = Command::new("sh")
         .arg("-c")
