@@ -17,7 +17,7 @@ const OF_PARTS: &[Call] = &[
 /// The same, and those that judge the directory and the sector's own table alone.
 const OF_TABLES: &[Call] = &[
     Check, CheckIn, Profile, Frame, Survey, Mend, Normal, Collapse, ToKdmv, ToCowd, Split, Lookup,
-    Chain,
+    Steps, Chain,
 ];
 
 /// The calls that write.
@@ -62,12 +62,12 @@ const ANSWERS: &[Answer] = &[
     ("11, 1 and a table", &[Check, CheckIn]),
     ("12, 1 and 2", &[Check, CheckIn]),
     ("12, entry 1", &[Check, CheckIn]),
-    ("absent", &[Lookup, Chain, Survey, Split]),
-    ("zero", &[Lookup, Chain, Survey, Split]),
-    ("stored", &[Lookup, Chain, Read, Survey, Split]),
-    ("packed", &[Lookup, Chain, Read, Survey, Split]),
-    ("stored at 1", &[Lookup, Chain, Read, Split]),
-    ("packed at 1", &[Lookup, Chain, Read, Split]),
+    ("absent", &[Lookup, Steps, Chain, Survey, Split]),
+    ("zero", &[Lookup, Steps, Chain, Survey, Split]),
+    ("stored", &[Lookup, Steps, Chain, Read, Survey, Split]),
+    ("packed", &[Lookup, Steps, Chain, Read, Survey, Split]),
+    ("stored at 1", &[Lookup, Steps, Chain, Read, Split]),
+    ("packed at 1", &[Lookup, Steps, Chain, Read, Split]),
     ("under the top layer", &[Chain]),
     ("empty part", &[Read]),
     ("no table", &[Frame]),
@@ -96,7 +96,7 @@ const ANSWERS: &[Answer] = &[
     // Request A5: what dirty images are answered, and where two refusals would hold.
     ("accepted, dirty", JUDGES),
     ("accepted, dirty footer", JUDGES),
-    ("from a dirty image", &[Lookup, Chain, Read, Split]),
+    ("from a dirty image", &[Lookup, Steps, Chain, Read, Split]),
     ("27, lower alone", &[Collapse]),
     ("27, upper alone", &[Collapse]),
     ("27, both", &[Collapse]),
@@ -173,9 +173,9 @@ const ANSWERS: &[Answer] = &[
     ("8, lower alone", &[Collapse]),
     ("8, upper alone", &[Collapse]),
     ("8, below the top", &[Chain]),
-    ("20, 8 too", &[Lookup]),
-    ("found, 8 with place 1", &[Lookup, Chain, Read]),
-    ("found, 8 with place 3", &[Lookup, Chain, Read]),
-    ("found, 8 with place 4", &[Lookup, Chain, Read]),
-    ("found, 8 with place 5", &[Lookup, Chain, Read]),
+    ("20, 8 too", &[Lookup, Steps]),
+    ("found, 8 with place 1", &[Lookup, Steps, Chain, Read]),
+    ("found, 8 with place 3", &[Lookup, Steps, Chain, Read]),
+    ("found, 8 with place 4", &[Lookup, Steps, Chain, Read]),
+    ("found, 8 with place 5", &[Lookup, Steps, Chain, Read]),
 ];

@@ -106,13 +106,16 @@ fn image_case(run: &mut Run, rng: &mut Rng, which: u64) {
     let before = image.clone();
     run.check(image);
     run.header(image);
-    for _ in 0..3 {
-        let sector = asked(rng, &built);
+    let sectors = [(); 3].map(|()| asked(rng, &built));
+    for sector in sectors {
         run.lookup(image, sector);
         run.read(image, sector);
     }
     if run.compares(Call::Normal) {
         run.normal(image, room(rng, needed(&[image])));
+    }
+    for sector in sectors {
+        run.steps(image, sector);
     }
     if run.compares(Call::Frame) {
         frames::case(run, rng, image);

@@ -85,6 +85,7 @@ fn far_case(run: &mut Run, memory: &mut [u8], rng: &mut Rng) {
     for _ in 0..2 {
         run.lookup(image, rng.below(capacity));
         run.read(image, rng.below(capacity));
+        run.steps(image, rng.below(capacity));
     }
     frames::ask(run, rng, image);
     marks::ask(run, rng, image);

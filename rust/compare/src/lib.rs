@@ -23,6 +23,7 @@ mod sectors;
 pub mod side;
 mod splits;
 pub mod starts;
+pub mod steps;
 mod surveys;
 pub mod tally;
 mod text;

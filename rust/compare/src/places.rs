@@ -154,7 +154,7 @@ impl Run<'_> {
             (0, 3) => "found, 8 with place 3",
             (0, 4) => "found, 8 with place 4",
             (0, 5) => "found, 8 with place 5",
-            (20, _) if call == Call::Lookup => "20, 8 too",
+            (20, _) if [Call::Lookup, Call::Steps].contains(&call) => "20, 8 too",
             (8, _) if call != Call::Read => return self.count_at_0(call, located.place, image),
             _ => return,
         };

@@ -13,7 +13,7 @@ pub fn gives(number: u64, call: Call) -> bool {
         CheckIn => (1..=12).contains(&number) || number == 21,
         Profile => (1..=12).contains(&number) || [23, 27, 42, 47].contains(&number),
         Header => (1..=7).contains(&number),
-        Lookup => (1..=10).contains(&number) || number == 20,
+        Lookup | Steps => (1..=10).contains(&number) || number == 20,
         Chain => (1..=10).contains(&number) || [20, 22, 24].contains(&number),
         Read => false,
         Frame => (1..=8).contains(&number) || number == 21,

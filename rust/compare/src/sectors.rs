@@ -15,11 +15,16 @@ impl Run<'_> {
             &[image],
             &sector,
         );
-        self.count_located(Call::Lookup, answers[1]);
-        self.count_cowd(Call::Lookup, [answers[1].number, answers[1].place], image);
-        self.count_past(Call::Lookup, answers[1].number, image, sector);
-        self.count_met(Call::Lookup, answers[1], image);
-        self.count_source(Call::Lookup, answers[1], image, sector);
+        self.count_sector(Call::Lookup, answers[1], image, sector);
+    }
+
+    /// Rows of a sector of one image.
+    pub(crate) fn count_sector(&mut self, call: Call, located: Located, image: &[u8], sector: u64) {
+        self.count_located(call, located);
+        self.count_cowd(call, [located.number, located.place], image);
+        self.count_past(call, located.number, image, sector);
+        self.count_met(call, located, image);
+        self.count_source(call, located, image, sector);
     }
 
     pub fn chain(&mut self, layers: &[u8], lengths: &[u64], sector: u64) {

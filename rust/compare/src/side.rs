@@ -1,7 +1,7 @@
 //! The two sides behind one trait. Answers are the plain side's structs.
 
 use plain::{
-    Closed, Described, Extent, Found, Framed, Head, Located, Marked, Mended, Part, Surveyed,
+    Closed, Described, Extent, Found, Framed, Head, Located, Marked, Mended, Part, Steps, Surveyed,
     Verdict, Written,
 };
 
@@ -11,6 +11,7 @@ pub trait Side {
     fn profile(&self, image: &[u8]) -> Verdict;
     fn header(&self, image: &[u8]) -> Head;
     fn lookup(&self, image: &[u8], sector: u64) -> Located;
+    fn steps(&self, image: &[u8], sector: u64) -> Steps;
     fn chain(&self, layers: &[u8], lengths: &[u64], sector: u64) -> Located;
     fn read(&self, image: &[u8], sector: u64) -> Part;
     fn frame(&self, image: &[u8], list: &mut [u64]) -> Framed;
@@ -50,6 +51,9 @@ impl Side for Plain {
     }
     fn lookup(&self, image: &[u8], sector: u64) -> Located {
         plain::lookup(image, sector)
+    }
+    fn steps(&self, image: &[u8], sector: u64) -> Steps {
+        plain::steps(image, sector)
     }
     fn chain(&self, layers: &[u8], lengths: &[u64], sector: u64) -> Located {
         plain::chain(layers, lengths, sector)
@@ -131,6 +135,12 @@ mod proved {
         }
         fn lookup(&self, image: &[u8], sector: u64) -> Located {
             same!(raw::lookup(image, sector) => Located { number, layer, place, kind, sector, size, offset })
+        }
+        fn steps(&self, image: &[u8], sector: u64) -> Steps {
+            same!(raw::steps(image, sector) => Steps {
+                number, place, one_is_zero, grain, directory_at, directory_entry, table_at, table_entry,
+                kind, sector, size, offset
+            })
         }
         fn chain(&self, layers: &[u8], lengths: &[u64], sector: u64) -> Located {
             same!(raw::chain(layers, lengths, sector) => Located { number, layer, place, kind, sector, size, offset })

@@ -151,7 +151,7 @@ fn image(rng: &mut Rng, which: u64) -> Vec<u8> {
         1 => anywhere(rng, false),
         2 => gone(rng, plan, which).bytes,
         _ => {
-            let damages = rng.pick(&[0, 0, 1, 1, 2]);
+            let damages = rng.pick(&[0, 1, 1, 1, 2]);
             made(rng, plan, which, damages).bytes
         }
     }

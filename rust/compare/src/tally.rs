@@ -12,6 +12,7 @@ pub enum Call {
     Profile,
     Header,
     Lookup,
+    Steps,
     Chain,
     Read,
     Frame,
@@ -29,12 +30,13 @@ pub enum Call {
 
 use Call::*;
 
-const CALLS: [(Call, &str); 18] = [
+const CALLS: [(Call, &str); 19] = [
     (Check, "check"),
     (CheckIn, "check_in"),
     (Profile, "profile"),
     (Header, "header"),
     (Lookup, "lookup"),
+    (Steps, "steps"),
     (Chain, "chain"),
     (Read, "read"),
     (Frame, "frame"),

@@ -30,13 +30,14 @@ mod places;
 mod profiles;
 mod splits;
 mod told;
+mod ways;
 
 use compare::cases::run_cases;
 use compare::run::Run;
 use compare::side::{Plain, Side};
 use compare::tally::{Call, Tally};
 use plain::{
-    Closed, Described, Extent, Found, Framed, Head, Located, Marked, Mended, Part, Surveyed,
+    Closed, Described, Extent, Found, Framed, Head, Located, Marked, Mended, Part, Steps, Surveyed,
     Verdict, Written,
 };
 use std::path::PathBuf;
@@ -50,7 +51,7 @@ mistakes! {
     BytePastTheResult ByteOnRefusal LowerOverUpper RecordPastTheLast RecordOnRefusal
     LineFromZero EndThatWraps
     ; Split splits ; Dirty dirty ; Marks marks ; Frames frames ; Mends mends ; Moves moves ; Profiles profiles
-    ; Closes closes
+    ; Closes closes ; Ways ways
 }
 
 impl Side for Mistake {
@@ -103,6 +104,13 @@ impl Side for Mistake {
         match self {
             Dirty(mistake) => mistake.lookup(located, image),
             _ => located,
+        }
+    }
+
+    fn steps(&self, image: &[u8], sector: u64) -> Steps {
+        match self {
+            Ways(mistake) => mistake.steps(image, sector),
+            _ => Plain.steps(&self.seen(image), sector),
         }
     }
 
@@ -231,6 +239,15 @@ fn tally(side: &dyn Side, count: u64) -> Tally {
     run.tally
 }
 
+/// Few cases catch most, and as many as the gate runs the others.
+fn is_caught(mistake: Mistake) -> bool {
+    let caught = |count| {
+        let tally = tally(&mistake, count);
+        tally.differences > 0 && !tally.good()
+    };
+    caught(4000) || caught(100_000)
+}
+
 #[test]
 fn each_mistake_is_caught() {
     let others = splits::ALL.map(Split).into_iter();
@@ -242,12 +259,7 @@ fn each_mistake_is_caught() {
     let others = others.chain(profiles::ALL.iter().copied().map(Profiles));
     let others = others.chain(closes::ALL.iter().copied().map(Closes));
     for mistake in ALL.iter().copied().chain(others) {
-        // Few cases catch most, and as many as the gate runs the others.
-        let caught = |count| {
-            let tally = tally(&mistake, count);
-            tally.differences > 0 && !tally.good()
-        };
-        assert!(caught(4000) || caught(100_000), "{mistake:?}");
+        assert!(is_caught(mistake), "{mistake:?}");
     }
 }
 
@@ -259,7 +271,7 @@ fn the_plain_side_agrees_with_itself_and_reaches_every_place() {
 }
 
 /// Sectors marked are those of frame and lookups, mending that of frame and check, moves those of check and lookups, the profile
-/// that of check and normal form, closing that of header and a walk.
+/// that of check and normal form, closing that of header and a walk, steps those of header and lookup.
 #[test]
 fn what_is_made_anew_agrees() {
     let marks = Marks(marks::Mistake::Recounted);
@@ -267,7 +279,8 @@ fn what_is_made_anew_agrees() {
     let moves = Moves(moves::Mistake::Remade);
     let profiles = Profiles(profiles::Mistake::Remade);
     let closes = Closes(closes::Mistake::Remade);
-    for remade in [moves, marks, mends, profiles, closes] {
+    let ways = Ways(ways::Mistake::Remade);
+    for remade in [moves, marks, mends, profiles, closes, ways] {
         assert_eq!(tally(&remade, 50_000).differences, 0, "{remade:?}");
     }
 }

@@ -1,6 +1,6 @@
 //! Answers as the program `cases` prints them: numbers, with a space after each.
 
-use plain::{Described, Extent, Found, Located};
+use plain::{Described, Extent, Found, Located, Steps};
 use std::fmt::Write;
 
 /// A line's beginning and its numbers.
@@ -15,6 +15,23 @@ pub fn line(start: &str, numbers: &[u64]) -> String {
 pub fn located(a: Located) -> [u64; 7] {
     [
         a.number, a.layer, a.place, a.kind, a.sector, a.size, a.offset,
+    ]
+}
+
+pub fn stepped(s: Steps) -> [u64; 12] {
+    [
+        s.number,
+        s.place,
+        s.one_is_zero,
+        s.grain,
+        s.directory_at,
+        s.directory_entry,
+        s.table_at,
+        s.table_entry,
+        s.kind,
+        s.sector,
+        s.size,
+        s.offset,
     ]
 }
 

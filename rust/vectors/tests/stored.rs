@@ -60,6 +60,45 @@ fn both_meanings_of_1() {
     }
 }
 
+/// The stored ways end at each of their steps, and 1 is either on them: zeros, a table's sector, a grain's.
+#[test]
+fn every_way() {
+    let output = std::fs::read_to_string(root().join("crates/cases/stdout")).unwrap();
+    let lines = output
+        .lines()
+        .filter_map(|line| line.strip_prefix("steps 0 0 "));
+    let mut ends = BTreeSet::new();
+    for line in lines {
+        let words: Vec<&str> = line.split(' ').collect();
+        let [zeros, _, _, directory, table_at, table, kind] =
+            [0, 1, 2, 3, 4, 5, 6].map(|k| words[k]);
+        let short = |entry| match entry {
+            "0" => 0,
+            "1" => 1,
+            _ => 2,
+        };
+        let table = (table_at != "0").then(|| short(table));
+        ends.insert((zeros == "1", short(directory), table, kind.to_string()));
+    }
+    let has = |zeros, directory, table, kind: &str| {
+        let end = (zeros, directory, table, kind.to_string());
+        assert!(ends.contains(&end), "no {end:?}");
+    };
+    has(true, 0, None, "0");
+    has(false, 0, None, "0");
+    has(true, 1, None, "1");
+    has(false, 1, Some(0), "0");
+    has(true, 2, Some(0), "0");
+    has(false, 2, Some(0), "0");
+    has(true, 2, Some(1), "1");
+    has(false, 2, Some(1), "2");
+    has(false, 2, Some(1), "3");
+    for zeros in [true, false] {
+        has(zeros, 2, Some(2), "2");
+        has(zeros, 2, Some(2), "3");
+    }
+}
+
 /// Each place of 8 that a call can give, and no other: a lookup names the directory and a primary table alone.
 #[test]
 fn every_place_of_8() {
@@ -78,6 +117,7 @@ fn every_place_of_8() {
         assert!(told(call, 0).into_iter().eq(PLACES), "{call}");
     }
     assert!(told("split", 1).into_iter().eq(PLACES));
+    assert!(told("steps", 0).into_iter().eq(["2", "4"]));
     for call in ["lookup", "chain"] {
         assert!(told(call, 1).into_iter().eq(["2", "4"]), "{call}");
     }
@@ -109,6 +149,7 @@ fn every_refusal() {
         ),
         ("header", (0..=7).chain([43]).collect()),
         ("lookup", (0..=10).chain([20, 43]).collect()),
+        ("steps", (0..=10).chain([20, 43]).collect()),
         ("chain", (0..=10).chain([20, 22, 24, 43]).collect()),
         ("frame", (0..=8).chain([21, 43]).collect()),
         ("survey", vec![0, 21, 24]),

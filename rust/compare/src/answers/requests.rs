@@ -1,4 +1,4 @@
-//! The table's places for requests A9 to A13.
+//! The table's places for requests A9 to A13 and the lookup's steps.
 
 use super::Answer;
 use crate::tally::Call::{self, *};
@@ -8,19 +8,20 @@ const MOVES: &[Call] = &[ToKdmv, ToCowd];
 
 /// The calls that refuse COWD; the reader, which gives no number, does too.
 pub const REFUSE_COWD: &[Call] = &[
-    Check, CheckIn, Profile, Header, Lookup, Chain, Frame, Survey, Mend, Normal, Collapse, Close,
-    Split,
+    Check, CheckIn, Profile, Header, Lookup, Steps, Chain, Frame, Survey, Mend, Normal, Collapse,
+    Close, Split,
 ];
 
 /// Those that judge its bytes and not the line of a descriptor.
 const OF_COWD: &[Call] = &[
-    Check, CheckIn, Profile, Header, Lookup, Chain, Frame, Survey, Mend, Normal, Collapse, Close,
+    Check, CheckIn, Profile, Header, Lookup, Steps, Chain, Frame, Survey, Mend, Normal, Collapse,
+    Close,
 ];
 
 /// The same and the moves.
 const ALL_OF_COWD: &[Call] = &[
-    Check, CheckIn, Profile, Header, Lookup, Chain, Frame, Survey, Mend, Normal, Collapse, Close,
-    ToKdmv, ToCowd,
+    Check, CheckIn, Profile, Header, Lookup, Steps, Chain, Frame, Survey, Mend, Normal, Collapse,
+    Close, ToKdmv, ToCowd,
 ];
 
 /// Kinds of answers, with the calls that can give them.
@@ -149,7 +150,7 @@ pub const ANSWERS: &[Answer] = &[
     ("43, 3 too", OF_COWD),
     ("43, 6 too", OF_COWD),
     ("43, 8 to 12 too", OF_COWD),
-    ("43, 20 too", &[Lookup, Chain]),
+    ("43, 20 too", &[Lookup, Steps, Chain]),
     ("empty part of COWD", &[Read]),
     ("43, base", &[Chain]),
     ("43, top", &[Chain]),
@@ -169,4 +170,36 @@ pub const ANSWERS: &[Answer] = &[
     ("39, 43 too", &[Split]),
     ("from FLAT, COWD", &[Split]),
     ("from VMFS, COWD", &[Split]),
+    // Issue 29: by the entries on the way, where they stand, and how far a refusal comes.
+    ("no table, absent", &[Steps]),
+    ("no table, zeros", &[Steps]),
+    ("in table, absent", &[Steps]),
+    ("in table, zeros", &[Steps]),
+    ("table at 1", &[Steps]),
+    ("1 a sector, version 1", &[Steps]),
+    ("1 a sector, no flag", &[Steps]),
+    ("second table", &[Steps]),
+    ("first of another table", &[Steps]),
+    ("last of a table", &[Steps]),
+    ("later directory sector", &[Steps]),
+    ("footer's directory", &[Steps]),
+    ("redundant directory", &[Steps]),
+    ("grain cut short", &[Steps]),
+    ("8 at 2, 1 is zeros", &[Steps]),
+    ("8 at 2, 1 a sector", &[Steps]),
+    ("8 at 2, later grain", &[Steps]),
+    ("8 at 4, 1 is zeros", &[Steps]),
+    ("8 at 4, 1 a sector", &[Steps]),
+    ("8 at 4, later grain", &[Steps]),
+    ("8 at 4, top byte", &[Steps]),
+    ("9, 1 is zeros", &[Steps]),
+    ("9, 1 a sector", &[Steps]),
+    ("9, stored", &[Steps]),
+    ("9, packed", &[Steps]),
+    ("9, entry 1", &[Steps]),
+    ("9, top byte", &[Steps]),
+    ("10, 1 is zeros", &[Steps]),
+    ("10, 1 a sector", &[Steps]),
+    ("10, no bytes", &[Steps]),
+    ("10, another grain", &[Steps]),
 ];

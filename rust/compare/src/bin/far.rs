@@ -16,6 +16,7 @@ fn main() {
         Call::CheckIn,
         Call::Profile,
         Call::Lookup,
+        Call::Steps,
         Call::Read,
         Call::Frame,
         Call::Survey,

@@ -1,7 +1,7 @@
 //! Mistakes of closing, in one that is made anew from the plain side's header and a walk of its own.
 
 mod laid;
-mod walk;
+pub mod walk;
 
 use compare::side::{Plain, Side};
 use plain::Closed;

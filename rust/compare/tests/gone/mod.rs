@@ -10,7 +10,7 @@ use compare::moves::result;
 use compare::side::{Plain, Side};
 use compare::tally::Call::{self, *};
 use plain::{
-    Closed, Described, Extent, Found, Framed, Head, Located, Marked, Mended, Part, Surveyed,
+    Closed, Described, Extent, Found, Framed, Head, Located, Marked, Mended, Part, Steps, Surveyed,
     Verdict, Written,
 };
 use std::borrow::Cow;
@@ -44,7 +44,7 @@ const ALL: &[(Mistake, &[Call])] = &[
     (Before1, OF_COWD),
     (After3, OF_COWD),
     (AfterTheCheck, OF_COWD),
-    (After20, &[Lookup, Chain]),
+    (After20, &[Lookup, Steps, Chain]),
     (As2, OF_COWD),
     (WithPlace, OF_COWD),
     (OldNumber, &[Profile, Mend, Normal, Collapse, Close]),
@@ -62,11 +62,12 @@ const ALL: &[(Mistake, &[Call])] = &[
 ];
 
 const OF_COWD: &[Call] = &[
-    Check, CheckIn, Profile, Header, Lookup, Chain, Frame, Survey, Mend, Normal, Collapse, Close,
+    Check, CheckIn, Profile, Header, Lookup, Steps, Chain, Frame, Survey, Mend, Normal, Collapse,
+    Close,
 ];
 const OF_COWD_AND_READ: &[Call] = &[
-    Check, CheckIn, Profile, Header, Lookup, Chain, Read, Frame, Survey, Mend, Normal, Collapse,
-    Close,
+    Check, CheckIn, Profile, Header, Lookup, Steps, Chain, Read, Frame, Survey, Mend, Normal,
+    Collapse, Close,
 ];
 
 /// The KDMV image of a COWD one, where it can be moved.
@@ -167,6 +168,23 @@ impl Side for Wrong<Mistake> {
             _ => self.mistake.lookup(plain, image, sector),
         };
         self.told(Lookup, plain, told)
+    }
+
+    fn steps(&self, image: &[u8], sector: u64) -> Steps {
+        let plain = Plain.steps(image, sector);
+        let told = match self.mistake.seen(image) {
+            Cow::Owned(moved) => Plain.steps(&moved, sector),
+            _ => {
+                let alone = Plain.lookup(image, sector);
+                let Located { number, place, .. } = self.mistake.lookup(alone, image, sector);
+                Steps {
+                    number,
+                    place,
+                    ..plain
+                }
+            }
+        };
+        self.told(Steps, plain, told)
     }
 
     fn chain(&self, layers: &[u8], lengths: &[u64], sector: u64) -> Located {

@@ -7,7 +7,7 @@ use compare::places::{half_described, outside};
 use compare::side::{Plain, Side};
 use compare::tally::Call::{self, *};
 use plain::{
-    Closed, Described, Extent, Found, Framed, Head, Located, Marked, Mended, Part, Surveyed,
+    Closed, Described, Extent, Found, Framed, Head, Located, Marked, Mended, Part, Steps, Surveyed,
     Verdict, Written,
 };
 
@@ -45,10 +45,10 @@ const ALL: &[(Mistake, &[Call])] = &[
     (RedundantBeforeDirectory, OF_PARTS),
     (TablesBeforeRedundant, OF_PARTS),
     (CopiesBeforeTables, OF_PARTS),
-    (DescriptorJudgedByLookups, &[Lookup, Chain]),
-    (CopiesJudgedByLookups, &[Lookup, Chain]),
-    (LowestNamedByLookups, &[Lookup, Chain]),
-    (Before20, &[Lookup]),
+    (DescriptorJudgedByLookups, &[Lookup, Steps, Chain]),
+    (CopiesJudgedByLookups, &[Lookup, Steps, Chain]),
+    (LowestNamedByLookups, &[Lookup, Steps, Chain]),
+    (Before20, &[Lookup, Steps]),
     (TopLayerNamed, &[Chain]),
     (UpperFirst, &[Collapse]),
 ];
@@ -58,7 +58,7 @@ const OF_PARTS: &[Call] = &[
 ];
 const OF_TABLES: &[Call] = &[
     Check, CheckIn, Profile, Frame, Survey, Mend, Normal, Collapse, ToKdmv, ToCowd, Split, Lookup,
-    Chain,
+    Steps, Chain,
 ];
 
 impl Mistake {
@@ -103,6 +103,20 @@ impl Mistake {
             place,
             layer: located.layer,
             ..Located::default()
+        }
+    }
+
+    /// What a lookup says of an image alone.
+    fn lookup(self, image: &[u8], sector: u64) -> Located {
+        let plain = Plain.lookup(image, sector);
+        match (self, plain.number) {
+            (Before20, 20) if outside(image)[1] => Located {
+                number: 8,
+                place: 2,
+                ..plain
+            },
+            (_, 0 | 8..=10) => self.met(plain, image),
+            _ => plain,
         }
     }
 }
@@ -153,17 +167,19 @@ impl Side for Wrong<Mistake> {
     }
 
     fn lookup(&self, image: &[u8], sector: u64) -> Located {
-        let plain = Plain.lookup(image, sector);
-        let told = match (self.mistake, plain.number) {
-            (Before20, 20) if outside(image)[1] => Located {
-                number: 8,
-                place: 2,
-                ..plain
-            },
-            (_, 0 | 8..=10) => self.mistake.met(plain, image),
-            _ => plain,
+        let told = self.mistake.lookup(image, sector);
+        self.told(Lookup, Plain.lookup(image, sector), told)
+    }
+
+    fn steps(&self, image: &[u8], sector: u64) -> Steps {
+        let plain = Plain.steps(image, sector);
+        let Located { number, place, .. } = self.mistake.lookup(image, sector);
+        let told = Steps {
+            number,
+            place,
+            ..plain
         };
-        self.told(Lookup, plain, told)
+        self.told(Steps, plain, told)
     }
 
     fn chain(&self, layers: &[u8], lengths: &[u64], sector: u64) -> Located {

@@ -1,9 +1,11 @@
 //! The lines that the program prints for a case: a call and the numbers of its answer.
 
 use super::{Case, CHAIN, CHECK_IN, CLOSE, COLLAPSE, FIND, FRAME, IMAGE, MEND, MOVE, PROFILE};
-use super::{MOST_ROWS, MOST_WORDS, SEARCHED, SHORT, SHORT_TALLY, SPLIT, SURVEY, TALLY, TEXT};
+use super::{
+    MOST_ROWS, MOST_WORDS, SEARCHED, SHORT, SHORT_TALLY, SPLIT, STEPS, SURVEY, TALLY, TEXT,
+};
 use crate::input::Input;
-use crate::numbers::{described, digest, extent, found, handed_over, line, located};
+use crate::numbers::{described, digest, extent, found, handed_over, line, located, stepped};
 use plain::{Extent, Refusal, Verdict, Written};
 
 impl Case {
@@ -42,6 +44,7 @@ impl Case {
                 (!records.is_empty()).then(find).into_iter().collect()
             }
             SPLIT => vec![self.split_line(sector)],
+            STEPS => vec![line("steps ", &stepped(plain::steps(&self.bytes, sector)))],
             _ => {
                 let lookup = line("lookup ", &located(plain::lookup(&self.bytes, sector)));
                 let part = plain::read(&self.bytes, sector);

@@ -3,7 +3,7 @@
 use super::kinds::kinds;
 use super::record::Recorder;
 use super::{Case, CHECK_IN, CLOSE, FIND, FRAME, IMAGE, MEND, MOST_WORDS, MOVE, PROFILE};
-use super::{SPLIT, SURVEY, TEXT};
+use super::{SPLIT, STEPS, SURVEY, TEXT};
 use compare::cases::case;
 use compare::cowd::is_cowd;
 use compare::rng::Rng;
@@ -22,7 +22,7 @@ const MOST_LAYERS: usize = 17;
 const MOST_ROOM: u64 = 65_536;
 
 /// What has so many kinds of answers that one of each is enough.
-const ONCE: [u64; 7] = [SURVEY, SPLIT, CHECK_IN, MEND, MOVE, PROFILE, CLOSE];
+const ONCE: [u64; 8] = [SURVEY, SPLIT, CHECK_IN, MEND, MOVE, PROFILE, CLOSE, STEPS];
 
 /// Samples small enough to be stored a second time.
 const SAMPLES: [&str; 3] = ["cowd-s001", "vmdkstream", "stream-optimized-data"];

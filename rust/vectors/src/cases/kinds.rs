@@ -1,24 +1,27 @@
 //! What kinds of answers the lines of a case are, so that one or a few of each are stored.
 
-use super::{Case, CLOSE, MEND};
+use super::{Case, CLOSE, MEND, STEPS};
 use compare::cowd::{grain_at, head, is_cowd, kept_check};
 use compare::marks::that_meets;
 use compare::mends::rows;
 use compare::profiles::part;
-use compare::starts;
-use plain::{Mended, STORED};
+use compare::{starts, steps};
+use plain::{Mended, Steps, STORED};
 
 /// What a word of a list holds before a call, as it is printed.
 const HELD: &str = "170";
 
-/// What kinds of answers a line has: a tally one for each refusal number, a survey one for each place of 8 in its rows, mending and
-/// closing one for each row of the comparison's table, any other line one.
+/// What kinds of answers a line has: a tally one for each refusal number, a survey one for each place of 8 in its rows, mending,
+/// closing and the lookup's steps one for each row of the comparison's table, any other line one.
 pub fn kinds(case: &Case, line: &str) -> Vec<String> {
     if case.asked == MEND {
         return mended(case, line);
     }
     if case.asked == CLOSE {
         return closed(case, line);
+    }
+    if case.asked == STEPS {
+        return stepped(case, line);
     }
     if let Some(words) = line.strip_prefix("survey 0 ") {
         let words: Vec<&str> = words.split(' ').skip(5).collect();
@@ -44,7 +47,9 @@ fn kind(case: &Case, line: &str) -> String {
         "record" => call.to_string(),
         _ if number == "43" => gone(case, call, words[2]),
         "lookup" | "chain" | "split" if number == "8" => format!("{call} 8 at {}", words[3]),
-        "check" | "check_in" | "profile" | "frame" | "normal" | "collapse" if number == "8" => {
+        "check" | "check_in" | "profile" | "steps" | "frame" | "normal" | "collapse"
+            if number == "8" =>
+        {
             format!("{call} 8 at {}", words[2])
         }
         // By what an entry of 1 is, or flag 0x4 in version 1.
@@ -60,6 +65,7 @@ fn kind(case: &Case, line: &str) -> String {
             let at_1 = if words[5] == "1" { "at 1" } else { "" };
             format!("{call} {number} {} {cowd} {at_1}", words[4])
         }
+        "steps" => format!("{call} {number} {} {}", words[9], words[10] == "1"),
         "chain" | "split" => format!("{call} {number} {}", words[4]),
         "profile" if number == "42" => {
             let place = words[2].parse().unwrap_or(0);
@@ -154,6 +160,30 @@ fn closed(case: &Case, line: &str) -> Vec<String> {
     let answer = plain::close(&case.bytes, &mut vec![0; case.room as usize]);
     let rows = starts::rows(answer, &case.bytes, case.room).into_iter();
     let kinds = rows.map(|row| format!("close, {row}"));
+    kinds.chain([kind(case, line)]).collect()
+}
+
+/// The kinds of a lookup's steps: their answer, and their rows.
+fn stepped(case: &Case, line: &str) -> Vec<String> {
+    let words = line.split(' ').skip(1);
+    let mut numbers = words.map(|word| word.parse().unwrap_or(0));
+    let mut next = || numbers.next().unwrap_or(0);
+    let told = Steps {
+        number: next(),
+        place: next(),
+        one_is_zero: next(),
+        grain: next(),
+        directory_at: next(),
+        directory_entry: next(),
+        table_at: next(),
+        table_entry: next(),
+        kind: next(),
+        sector: next(),
+        size: next(),
+        offset: next(),
+    };
+    let rows = steps::rows(told, &case.bytes).into_iter();
+    let kinds = rows.map(|row| format!("steps, {row}"));
     kinds.chain([kind(case, line)]).collect()
 }
 

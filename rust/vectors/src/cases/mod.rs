@@ -42,6 +42,8 @@ const MOVE: u64 = 11;
 const PROFILE: u64 = 12;
 /// Closing, into an output whose length is the room.
 const CLOSE: u64 = 13;
+/// The lookup's steps for each sector.
+const STEPS: u64 = 14;
 
 const SEARCHED: usize = 32;
 const MOST_WORDS: usize = 96;

@@ -2,12 +2,12 @@
 
 use super::{
     Case, CHAIN, CHECK_IN, CLOSE, COLLAPSE, FIND, FRAME, IMAGE, MEND, MOVE, PROFILE, SEARCHED,
-    SHORT, SHORT_TALLY, SPLIT, SURVEY, TEXT,
+    SHORT, SHORT_TALLY, SPLIT, STEPS, SURVEY, TEXT,
 };
 use crate::numbers::extent;
 use compare::side::{Plain, Side};
 use plain::{
-    Closed, Described, Extent, Found, Framed, Head, Located, Marked, Mended, Part, Surveyed,
+    Closed, Described, Extent, Found, Framed, Head, Located, Marked, Mended, Part, Steps, Surveyed,
     Verdict, Written,
 };
 use std::cell::RefCell;
@@ -85,6 +85,15 @@ impl Side for Recorder {
     fn lookup(&self, image: &[u8], sector: u64) -> Located {
         self.image(image, &[sector]);
         Plain.lookup(image, sector)
+    }
+    fn steps(&self, image: &[u8], sector: u64) -> Steps {
+        self.keep(Case {
+            asked: STEPS,
+            sectors: vec![sector],
+            bytes: image.to_vec(),
+            ..Case::default()
+        });
+        Plain.steps(image, sector)
     }
     fn chain(&self, layers: &[u8], lengths: &[u64], sector: u64) -> Located {
         self.keep(Case {
