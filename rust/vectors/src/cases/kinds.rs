@@ -65,7 +65,6 @@ fn kind(case: &Case, line: &str) -> String {
             let at_1 = if words[5] == "1" { "at 1" } else { "" };
             format!("{call} {number} {} {cowd} {at_1}", words[4])
         }
-        "steps" => format!("{call} {number} {} {}", words[9], words[10] == "1"),
         "chain" | "split" => format!("{call} {number} {}", words[4]),
         "profile" if number == "42" => {
             let place = words[2].parse().unwrap_or(0);
@@ -182,9 +181,21 @@ fn stepped(case: &Case, line: &str) -> Vec<String> {
         size: next(),
         offset: next(),
     };
+    let own = match told.number {
+        0 => {
+            // By what 1 means, and by both entries: 0, 1 or another.
+            let [directory, table] =
+                [told.directory_entry, told.table_entry].map(|entry| entry.min(2));
+            format!(
+                "steps 0 {} {directory} {table} {}",
+                told.one_is_zero, told.kind
+            )
+        }
+        _ => kind(case, line),
+    };
     let rows = steps::rows(told, &case.bytes).into_iter();
     let kinds = rows.map(|row| format!("steps, {row}"));
-    kinds.chain([kind(case, line)]).collect()
+    kinds.chain([own]).collect()
 }
 
 /// The kinds of a mending's answer: its number, with the good side, and what is told of it.
