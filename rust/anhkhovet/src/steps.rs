@@ -55,7 +55,7 @@ impl Error for StepsRefusal {}
 impl Way {
     fn of(told: &raw::Steps) -> Way {
         // No entry stands in the first sector, which is the header's.
-        let step = |at: u64, entry: u64| (at != 0).then(|| Step { at, entry });
+        let step = |at: u64, entry: u64| (at != 0).then_some(Step { at, entry });
         Way {
             one_is_zero: told.one_is_zero != 0,
             grain: told.grain,
@@ -76,7 +76,7 @@ pub fn steps(image: &[u8], sector: u64) -> Result<Steps, StepsRefusal> {
     let way = Way::of(&told);
     Refusal::unless_zero(told.number, told.place).map_err(|refusal| StepsRefusal {
         refusal,
-        way: matches!(refusal.number, 8..=10).then(|| way),
+        way: matches!(refusal.number, 8..=10).then_some(way),
     })?;
     Ok(Steps {
         way,
