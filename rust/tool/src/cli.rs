@@ -27,6 +27,7 @@ pub enum Task {
     Profile(Vec<PathBuf>),
     Survey(Vec<PathBuf>),
     Sector(Vec<PathBuf>, u64),
+    Explain(Vec<PathBuf>, u64),
     Read(Vec<PathBuf>, u64, Option<Target>),
     /// Sectors in a row, as they are on the disk.
     ReadRow(Vec<PathBuf>, Stretch, Option<Target>),
@@ -82,6 +83,7 @@ fn task(name: &str, given: &ArgMatches) -> Option<Task> {
         "profile" => Task::Profile(files),
         "survey" => Task::Survey(files),
         "sector" => Task::Sector(files, sector()?),
+        "explain" => Task::Explain(files, sector()?),
         "read" => grading::read_task(files, given, target().filter(|to| !stream(&to.path)))?,
         "map" if given.get_flag("coverage") => Task::Coverage(files),
         "map" => Task::Map(files),
@@ -122,6 +124,7 @@ fn misused(task: &Task) -> Option<&'static str> {
         Task::Collapse(files, ..) | Task::Move(files, ..) | Task::Picture(files, _) => files,
         Task::Normal(file, ..) | Task::Close(file, _) => std::slice::from_ref(file),
         Task::Mend(asked) => std::slice::from_ref(&asked.file),
+        Task::Explain(files, _) => files,
         Task::Describe(..) => &[],
         Task::Header(file) => std::slice::from_ref(file),
         Task::Refusals(_) => &[],

@@ -77,7 +77,7 @@ pub fn command() -> Command {
                 .help("Answer with one JSON object")
                 .action(ArgAction::SetTrue),
         );
-    let command = describing(grading(reading(judging(command))));
+    let command = describing(grading(explaining(reading(judging(command)))));
     picturing(closing(moving(mending(writing(command)))))
 }
 
@@ -132,6 +132,18 @@ fn reading(command: Command) -> Command {
                 ))
                 .arg(strict()),
         )
+}
+
+fn explaining(command: Command) -> Command {
+    command.subcommand(
+        subcommand("explain")
+            .about(
+                "Says how a sector is found, step by step, with the bytes that stand in the file",
+            )
+            .arg(layers())
+            .arg(number())
+            .arg(strict()),
+    )
 }
 
 fn writing(command: Command) -> Command {

@@ -10,7 +10,7 @@ use anhkhovet::{Area, Group, SECTOR};
 use std::ops::Range;
 
 /// Bytes of an entry.
-const ENTRY: u64 = 4;
+pub const ENTRY: u64 = 4;
 
 /// The third byte of the flags, which has that for packed grains.
 const FLAGS: usize = 10;
@@ -33,7 +33,7 @@ pub const MEND: Unsure = Unsure {
 };
 
 /// Entries of a table.
-const ENTRIES: u64 = 512;
+pub const ENTRIES: u64 = 512;
 
 /// Where the directory is, and how many entries of it are in use.
 struct Tables {

@@ -22,6 +22,7 @@ mod difference;
 mod differing;
 mod digest;
 mod entries;
+mod explain;
 mod failure;
 mod files;
 mod folder;
@@ -94,6 +95,7 @@ fn run(task: Task, json: bool) -> Result<(), Failure> {
         Task::Profile(files) => profile::profile(&files, json),
         Task::Survey(files) => survey::survey(&files, json),
         Task::Sector(files, sector) => sector::sector(&files, sector, json),
+        Task::Explain(files, sector) => explain::explain(&files, sector, json),
         Task::Read(files, sector, target) => sector::read(&files, sector, target, json),
         Task::ReadRow(files, stretch, target) => row::read(&files, stretch, target, json),
         Task::Map(files) => map::map(&files, json),

@@ -92,6 +92,12 @@ pub fn hex(bytes: &[u8]) -> String {
     text
 }
 
+/// The same with spaces between bytes.
+pub fn spaced(bytes: &[u8]) -> String {
+    let bytes: Vec<String> = bytes.iter().map(|byte| hex(&[*byte])).collect();
+    bytes.join(" ")
+}
+
 /// A string of JSON: the bytes where they are UTF-8, else their form in words.
 fn string(bytes: &[u8]) -> String {
     str::from_utf8(bytes).map_or_else(|_| shown(bytes), str::to_string)

@@ -105,17 +105,16 @@ impl Rule {
         }
         let calls = listed(&givers::of(self.number, &CALLS));
         let commands = listed(&givers::of(self.number, &COMMANDS));
-        let told = [
-            ("rule", self.rule),
-            ("place", self.place),
-            ("calls", &calls),
-            ("commands", &commands),
-            ("cause", self.cause),
-            ("try", self.advice),
-        ];
-        told.iter()
-            .for_each(|(word, text)| lines += &wrapped(word, text));
-        lines
+        let givers = wrapped("calls", &calls) + &wrapped("commands", &commands);
+        lines + &self.meaning() + &givers + &self.help()
+    }
+
+    fn meaning(&self) -> String {
+        wrapped("rule", self.rule) + &wrapped("place", self.place)
+    }
+
+    fn help(&self) -> String {
+        wrapped("cause", self.cause) + &wrapped("try", self.advice)
     }
 }
 
@@ -145,6 +144,15 @@ fn wrapped(word: &str, text: &str) -> String {
 fn list(rules: &[&Rule]) -> String {
     let line = |rule: &&Rule| format!("{:>3}  {}\n", rule.number, rule.sentences()[0].1);
     rules.iter().map(line).collect::<String>() + MORE
+}
+
+/// What stands behind a refusal that is explained: what the rule asks for, where the place points and what to try; and all as an
+/// object.
+pub fn help(number: u64) -> (String, Value) {
+    let rule = all().into_iter().find(|rule| rule.number == number);
+    rule.map_or_else(Default::default, |rule| {
+        (rule.meaning() + &rule.help(), rule.object())
+    })
 }
 
 pub fn refusals(number: Option<u64>, json: bool) -> Result<(), Failure> {

@@ -14,24 +14,32 @@ const SENTENCE: &str =
 const MOVE: &str = "`anhkhovet move FILE -o OUT` writes it as KDMV";
 
 /// Every command but `move`, with `old` in place of an image.
-const COMMANDS: [&str; 17] = [
+const COMMANDS: [&str; 25] = [
     "check old",
+    "header old",
     "survey old",
     "profile old",
     "sector old 0",
     "sector old 9999999",
+    "explain old 0",
+    "explain old 9999999",
     "read old 0",
     "read old 0 -o out",
+    "read old 0 --count 2",
     "map old",
     "map --coverage old",
     "digest old",
     "digest --grain old --list list",
+    "digest --whole old",
+    "raw old -o out",
     "collapse old tool-base.vmdk -o out",
     "collapse tool-base.vmdk old -o out",
     "normal old -o out",
     "mend --good primary old -o out",
     "describe old",
     "close old -o out",
+    "picture old -o out",
+    "picture tool-base.vmdk old -o out",
 ];
 
 fn folder() -> Folder {
@@ -80,7 +88,9 @@ fn every_command_names_move() {
     for name in commands.filter_map(|line| line.split_whitespace().next()) {
         let tried = |words: &&str| words.split(' ').next() == Some(name);
         let takes = COMMANDS.iter().any(tried);
-        assert!(takes || ["move", "help"].contains(&name), "{name}");
+        // These two take no image.
+        let others = ["move", "help", "refusals"];
+        assert!(takes || others.contains(&name), "{name}");
     }
 }
 

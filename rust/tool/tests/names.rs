@@ -185,7 +185,7 @@ fn no_command_hands_a_name_on_as_it_is() {
         let sentences: [&[&[u8]]; 10] = [
             &[b"survey", name],
             &[b"sector", name, b"2"],
-            &[b"sector", name, b"9999"],
+            &[b"explain", name, b"9999"],
             &[b"map", name, name],
             &[b"digest", b"tool-base.vmdk", b"--list", name],
             &[b"read", b"tool-base.vmdk", b"2", b"-o", name],

@@ -13,6 +13,8 @@ fn readers(odd: &str) -> Vec<Vec<&str>> {
     vec![
         vec!["sector", odd, "0"],
         vec!["sector", IMAGE, odd, "0"],
+        vec!["explain", odd, "0"],
+        vec!["explain", IMAGE, odd, "0"],
         vec!["read", odd, "0"],
         vec!["map", odd],
         vec!["map", IMAGE, odd],

@@ -17,9 +17,10 @@ use std::process::{Child, Stdio};
 use std::thread::sleep;
 use std::time::{Duration, Instant};
 
-const COMMANDS: [&[&str]; 11] = [
+const COMMANDS: [&[&str]; 12] = [
     &["check", "it"],
     &["sector", "it", "0"],
+    &["explain", "it", "0"],
     &["read", "it", "0"],
     &["map", "it"],
     &["digest", "it"],

@@ -8,8 +8,9 @@ use std::fs;
 const CHAIN: [&str; 3] = ["tool-base.vmdk", "tool-middle.vmdk", "tool-top.vmdk"];
 
 /// Commands that take a chain, and the words after its layers.
-const COMMANDS: [(&[&str], &[&str]); 9] = [
+const COMMANDS: [(&[&str], &[&str]); 10] = [
     (&["sector"], &["2"]),
+    (&["explain"], &["2"]),
     (&["read"], &["2"]),
     (&["read"], &["2", "--count", "2"]),
     (&["map"], &[]),

@@ -118,6 +118,12 @@ fn profile() {
     race(&KDMV, &["profile", "disk"]);
 }
 
+/// Of a grain whose entry comes and goes, and is damaged between.
+#[test]
+fn explain() {
+    race(&KDMV, &["explain", "disk", "delta", "400"]);
+}
+
 #[test]
 fn map() {
     race(&KDMV, &["map", "disk", "delta"]);

@@ -166,7 +166,7 @@ fn wrong_use_is_status_2() {
 fn help_names_every_command() {
     let help = run(&samples(), &["--help"]).well().text();
     let commands = [
-        "check", "sector", "read", "map", "digest", "collapse", "normal", "describe",
+        "check", "sector", "explain", "read", "map", "digest", "collapse", "normal", "describe",
     ];
     for command in commands {
         assert!(help.contains(command), "{help}");

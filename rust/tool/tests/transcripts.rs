@@ -146,5 +146,5 @@ macro_rules! transcripts {
 
 transcripts!(
     check survey sector read map coverage digest collapse normal describe refusals outside split still_open mend moves
-    profile close gone grade
+    profile close gone grade explain
 );

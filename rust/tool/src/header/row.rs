@@ -1,6 +1,6 @@
 //! A part of a header that is told in a line, and what rules ask of it.
 
-use crate::names::hex;
+use crate::names::{hex, spaced};
 use serde_json::{json, Value};
 
 /// What a rule asks of a part, and whether that holds.
@@ -54,14 +54,9 @@ impl Row {
 
     /// The bytes as they stand, with spaces between.
     fn shown(&self) -> String {
-        let shown: Vec<String> = self
-            .bytes
-            .iter()
-            .take(SHOWN)
-            .map(|byte| hex(&[*byte]))
-            .collect();
+        let shown = &self.bytes[..SHOWN.min(self.bytes.len())];
         let more = if self.bytes.len() > SHOWN { " .." } else { "" };
-        shown.join(" ") + more
+        spaced(shown) + more
     }
 
     /// Its byte, size, bytes and what they say.

@@ -9,12 +9,13 @@ type Numbers = &'static [RangeInclusive<u64>];
 pub type Giver = (&'static str, Numbers);
 
 /// The calls of the C face, without the `anhkhovet_` of their names, and the small program, each in its order.
-pub const CALLS: [Giver; 19] = [
+pub const CALLS: [Giver; 20] = [
     ("header", &[1..=2, 43..=43, 3..=7]),
     ("check", &[1..=2, 43..=43, 3..=12]),
     ("check_in", &[1..=2, 43..=43, 3..=11, 21..=21, 12..=12]),
     ("frame", &[1..=2, 43..=43, 3..=8, 21..=21]),
     ("lookup", &[1..=2, 43..=43, 3..=7, 20..=20, 8..=10]),
+    ("steps", &[1..=2, 43..=43, 3..=7, 20..=20, 8..=10]),
     (
         "chain",
         &[24..=24, 1..=2, 43..=43, 3..=7, 22..=22, 20..=20, 8..=10],
@@ -59,13 +60,26 @@ pub const CALLS: [Giver; 19] = [
 ];
 
 /// The commands of the tool; several take a descriptor for a disk of several files too.
-pub const COMMANDS: [Giver; 14] = [
+pub const COMMANDS: [Giver; 17] = [
     ("check", &[1..=12, 31..=36, 38..=39, 43..=43, 45..=45]),
     ("header", &[1..=7, 43..=43]),
     ("profile", &[1..=12, 23..=23, 27..=27, 42..=43, 47..=47]),
     ("survey", &[1..=12, 43..=43]),
     (
         "sector",
+        &[
+            1..=12,
+            20..=20,
+            22..=22,
+            24..=24,
+            31..=36,
+            38..=39,
+            43..=43,
+            45..=45,
+        ],
+    ),
+    (
+        "explain",
         &[
             1..=12,
             20..=20,
@@ -98,6 +112,11 @@ pub const COMMANDS: [Giver; 14] = [
         "digest",
         &[1..=12, 22..=22, 24..=24, 31..=36, 38..=39, 43..=43, 45..=45],
     ),
+    (
+        "raw",
+        &[1..=12, 22..=22, 24..=24, 31..=36, 38..=39, 43..=43, 45..=45],
+    ),
+    ("picture", &[1..=12, 22..=22, 24..=24, 43..=43]),
     ("describe", &[1..=1, 3..=8, 20..=20, 30..=36, 43..=43]),
     ("collapse", &[1..=12, 22..=23, 27..=27, 43..=43]),
     ("normal", &[1..=12, 23..=23, 27..=27, 43..=43]),
