@@ -27,7 +27,15 @@ entryByte t k = 512 * t + 4 * k
 -- ---- how far the lookup comes
 -- no further than the header and 20
 unfoldable pub noWay : Way
-noWay = record { «one_is_zero» = false; grain = 0; «directory_at» = 0; «directory_entry» = 0; «table_at» = 0; «table_entry» = 0 }
+noWay =
+    record {
+      «one_is_zero» = false;
+      grain = 0;
+      «directory_at» = 0;
+      «directory_entry» = 0;
+      «table_at» = 0;
+      «table_entry» = 0;
+    }
 
 -- to the grain
 unfoldable pub toGrain : Header → ℕ → Way

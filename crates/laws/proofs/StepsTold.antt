@@ -1,19 +1,15 @@
 -- The steps of a lookup (issue 29): its answer, the entries that stand on the way, and how the one follows from the others.
-use Prim.Native.Nat.{ℕ, _+_, _*_, _/_, _%_, _≤_, _<_}
+use Prim.Native.Nat.{ℕ, _%_}
 use mathlib.Core.Path.{_≡_, refl, sym, _∙_}
 use mathlib.Core.List.{List}
-use mathlib.Core.Bool.{Bool, true, false, _&&_}
 use native.Mathlib.Omega.{arith}
 use lib.Dec.{leb}
-use lib.ListN.{length}
-use borrow.Author.Tests.{leb-true, leb-false}
-use Rattle.base.specs.Pick.{pick}
+use borrow.Author.Tests.{leb-true}
 use Rattle.base.specs.Numbers.{leAt}
 use Rattle.base.proofs.Steps.{cond-all, pick-both}
 use Rattle.format.specs.Geometry.{fileSectors}
 use Rattle.format.specs.Header.{judge}
-use Rattle.format.specs.Entries.{meaning, meaningAt, grainSectors, markerBroken}
-use Rattle.format.specs.Areas.{area, endsPast}
+use Rattle.format.specs.Entries.{meaning}
 use Rattle.format.specs.Check.{directoryMisplaced}
 use Rattle.format.specs.Source.{entrySource, lookupGrain, lookupEntry, lookupTable, lookupIn, lookupFrom, sectorLookup}
 use Rattle.format.specs.Answers.{located}
@@ -25,8 +21,8 @@ use Rattle.format.specs.declared.HeaderAnswer.{HeaderAnswer}
 use Rattle.format.specs.declared.HeaderAnswer.the-variants.{Known, Refused as unknown}
 use Rattle.format.specs.declared.LookupAnswer.{LookupAnswer}
 use Rattle.format.specs.declared.steps.Way.{Way}
-use Rattle.laws.specs.Reached.{grainAt, inDirectory, servedBy, Reached, header, past, directory, noTable, table}
-use Rattle.laws.specs.Reached.{grainPast, marker, found}
+use Rattle.laws.specs.Reached.{grainAt, inDirectory, Reached, header, past, directory, noTable, table, grainPast, marker}
+use Rattle.laws.specs.Reached.{found}
 
 module _ (s : List ℕ) (x : ℕ) where
   -- ---- number, place, kind, sector, size and offset are the lookup's
@@ -49,7 +45,8 @@ module _ (s : List ℕ) (x : ℕ) where
     o = x % h .«grain_size»
 
     -- by the table's entry
-    by-entry : (t : ℕ) → inDirectory s h x ≡ Sector t → (e : Entry) → meaning (h .«one_is_zero») (toTable s h g t .«table_entry») ≡ e
+    by-entry : (t : ℕ) → inDirectory s h x ≡ Sector t → (e : Entry)
+        → meaning (h .«one_is_zero») (toTable s h g t .«table_entry») ≡ e
         → Reached s x (lookupEntry s h g o e) (toTable s h g t)
     unfolding lookupEntry lookupGrain entrySource
     by-entry t named Absent q = rw q at (found known named)

@@ -1,11 +1,11 @@
 -- How far a lookup comes, and what it answers there: what is promised of the steps (issue 29). Of image s and sector x.
-use Prim.Native.Nat.{ℕ, _+_, _/_, _%_, _≤_}
+use Prim.Native.Nat.{ℕ, _/_, _%_, _≤_}
 use mathlib.Core.Path.{_≡_}
 use mathlib.Core.List.{List}
 use mathlib.Core.Bool.{true}
 use Rattle.format.specs.Geometry.{fileSectors}
 use Rattle.format.specs.Header.{judge}
-use Rattle.format.specs.Entries.{meaning, meaningAt}
+use Rattle.format.specs.Entries.{meaning}
 use Rattle.format.specs.Check.{directoryMisplaced}
 use Rattle.format.specs.Source.{entrySource}
 use Rattle.format.specs.Way.{noWay, toGrain, toDirectory, toTable}
