@@ -106,15 +106,25 @@ impl Rule {
         let calls = listed(&givers::of(self.number, &CALLS));
         let commands = listed(&givers::of(self.number, &COMMANDS));
         let givers = wrapped("calls", &calls) + &wrapped("commands", &commands);
-        lines + &self.meaning() + &givers + &self.help()
+        lines += &wrapped("rule", self.rule);
+        lines += &wrapped("place", self.place);
+        lines + &givers + &self.advised()
     }
 
-    fn meaning(&self) -> String {
-        wrapped("rule", self.rule) + &wrapped("place", self.place)
-    }
-
-    fn help(&self) -> String {
+    fn advised(&self) -> String {
         wrapped("cause", self.cause) + &wrapped("try", self.advice)
+    }
+
+    /// What stands below a refusal, whose sentence is told already: where the place points is left out where the sentence says it,
+    /// or where it points nowhere.
+    fn behind(&self) -> String {
+        let points = self.sentences().len() == 1 && !self.place.starts_with("It is 0 ");
+        let place = if points {
+            wrapped("place", self.place)
+        } else {
+            String::new()
+        };
+        wrapped("rule", self.rule) + &place + &self.advised()
     }
 }
 
@@ -146,13 +156,10 @@ fn list(rules: &[&Rule]) -> String {
     rules.iter().map(line).collect::<String>() + MORE
 }
 
-/// What stands behind a refusal that is explained: what the rule asks for, where the place points and what to try; and all as an
-/// object.
+/// What helps after a refusal, in words and as an object.
 pub fn help(number: u64) -> (String, Value) {
     let rule = all().into_iter().find(|rule| rule.number == number);
-    rule.map_or_else(Default::default, |rule| {
-        (rule.meaning() + &rule.help(), rule.object())
-    })
+    rule.map_or_else(Default::default, |rule| (rule.behind(), rule.object()))
 }
 
 pub fn refusals(number: Option<u64>, json: bool) -> Result<(), Failure> {

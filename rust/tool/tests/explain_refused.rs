@@ -28,15 +28,18 @@ fn refused(folder: &Folder, files: &str, sector: u64, number: u64, steps: &str, 
     let text = String::from_utf8_lossy(&words.out).into_owned();
     let (way, help) = text.split_once(sentence).expect("the refusal");
     assert!(way.ends_with(end), "{way}");
-    // Then comes what `refusals` says, but for who gives the number.
+    // Then comes what `refusals` says, and where the place points if that is not said yet.
     let rule = ran(folder, &format!("refusals {number}")).well().text();
-    for word in ["rule ", "place ", "cause ", "try "] {
-        let line = help
-            .lines()
-            .find(|line| line.starts_with(word))
-            .expect(word);
-        assert!(rule.lines().any(|said| said == line), "{line}");
+    let said = |line: &str| rule.lines().any(|said| said == line);
+    assert!(
+        help.lines().all(|line| line.is_empty() || said(line)),
+        "{help}"
+    );
+    for word in ["rule ", "cause ", "try "] {
+        assert!(help.lines().any(|line| line.starts_with(word)), "{help}");
     }
+    let points = help.lines().any(|line| line.starts_with("place "));
+    assert_eq!(points, matches!(number, 9 | 10), "{help}");
 
     let told = object(&ran(folder, &format!("explain --json {files} {sector}")));
     stands(folder, &told);

@@ -91,9 +91,10 @@ pub const RULES: &[Rule] = &[
         place: GRAIN,
         cause: "A file that was cut short, by a full disk or a download that ended early; a copy of a disk in use; a \
                 damaged table or, of a packed grain, a damaged marker.",
-        advice: "Compare the file's length with that of the original, and copy it again. Sectors of other grains can \
-                 be read. Where there is a redundant directory, `anhkhovet mend --good redundant FILE` says whether \
-                 its tables are sound.",
+        advice: "`anhkhovet explain FILE N` of a sector of that grain shows the entry that leads there. Compare the \
+                 file's length with that of the original, and copy it again. Sectors of other grains can be read. \
+                 Where there is a redundant directory, `anhkhovet mend --good redundant FILE` says whether its \
+                 tables are sound.",
     },
     Rule {
         number: 10,
@@ -101,8 +102,8 @@ pub const RULES: &[Rule] = &[
                The first is the grain's number x grain size, and the size is at least 1.",
         place: GRAIN,
         cause: "A damaged table, which leads to the place of another grain or of none, or a damaged marker.",
-        advice: "Fetch the image again. `anhkhovet sector FILE N` of a sector of that grain says the same number, \
-                 and those of other grains can be read.",
+        advice: "`anhkhovet explain FILE N` of a sector of that grain shows the marker and the entry that leads to \
+                 it. Fetch the image again. Sectors of other grains can be read.",
     },
     Rule {
         number: 11,
