@@ -10,6 +10,8 @@ use std::process::{Command, Stdio};
 
 /// A command, and the lines that a page shows under it.
 struct Shown {
+    /// The number of the section that it stands in.
+    section: usize,
     command: String,
     lines: Vec<String>,
 }
@@ -18,12 +20,15 @@ struct Shown {
 fn shown(page: &str) -> Vec<Shown> {
     let mut all: Vec<Shown> = Vec::new();
     let mut open = false;
+    let mut section = 0;
     for line in page.lines() {
+        section += usize::from(line.starts_with("## "));
         match line.strip_prefix("    ") {
             Some(code) => match code.strip_prefix("$ ") {
                 Some(command) => {
                     let command = command.to_string();
                     all.push(Shown {
+                        section,
                         command,
                         lines: Vec::new(),
                     });
@@ -51,13 +56,29 @@ fn there(program: &str) -> bool {
     found.map_or(false, |output| output.status.success())
 }
 
+/// Leaves out the sections that make an image with qemu-img, where that is missing and may be.
+fn leave_out(shown: &mut Vec<Shown>, name: &str) {
+    if std::env::var_os("ANHKHOVET_QEMU_IMG").is_some() || there("qemu-img") {
+        return;
+    }
+    let made = shown
+        .iter()
+        .filter(|shown| shown.command.starts_with("qemu-img "));
+    let made: Vec<usize> = made.map(|shown| shown.section).collect();
+    for section in &made {
+        println!("NOT RUN: section {section} of {name}, since qemu-img is not here");
+    }
+    shown.retain(|shown| !made.contains(&shown.section));
+}
+
 /// The commands run by a shell, in a folder with samples, where `anhkhovet` is the tool.
 fn page(name: &str, least: usize) {
     let path = Path::new(env!("CARGO_MANIFEST_DIR"))
         .join("../../docs")
         .join(name);
-    let shown = shown(&fs::read_to_string(path).expect("a page"));
+    let mut shown = shown(&fs::read_to_string(path).expect("a page"));
     assert!(shown.len() >= least, "{} commands in {name}", shown.len());
+    leave_out(&mut shown, name);
 
     let folder = Folder::new();
     let images = fs::canonicalize(samples()).expect("samples");
@@ -65,7 +86,7 @@ fn page(name: &str, least: usize) {
     let runner = std::env::var("ANHKHOVET_RUNNER").unwrap_or_default();
     let tool = format!("anhkhovet() {{ {runner} '{TOOL}' \"$@\"; }}");
 
-    for Shown { command, lines } in shown {
+    for Shown { command, lines, .. } in shown {
         let word = command.split(' ').next().unwrap_or_default();
         if word == "python3" && !there(word) {
             println!("NOT RUN: a command of {name}, since python3 is not here");
@@ -91,7 +112,7 @@ fn coverage() {
 
 #[test]
 fn course() {
-    page("COURSE.md", 20);
+    page("COURSE.md", 100);
 }
 
 #[test]

@@ -91,10 +91,10 @@ pub const RULES: &[Rule] = &[
         place: GRAIN,
         cause: "A file that was cut short, by a full disk or a download that ended early; a copy of a disk in use; a \
                 damaged table or, of a packed grain, a damaged marker.",
-        advice: "`anhkhovet explain FILE N` of a sector of that grain shows the entry that leads there. Compare the \
-                 file's length with that of the original, and copy it again. Sectors of other grains can be read. \
-                 Where there is a redundant directory, `anhkhovet mend --good redundant FILE` says whether its \
-                 tables are sound.",
+        advice: "Compare the file's length with that of the original, and copy it again. Sectors of other grains can \
+                 be read. Where there is a redundant directory, `anhkhovet mend --good redundant FILE` says whether \
+                 its tables are sound. `anhkhovet explain FILE N` of a sector of that grain shows the entry that \
+                 leads there.",
     },
     Rule {
         number: 10,
@@ -102,8 +102,8 @@ pub const RULES: &[Rule] = &[
                The first is the grain's number x grain size, and the size is at least 1.",
         place: GRAIN,
         cause: "A damaged table, which leads to the place of another grain or of none, or a damaged marker.",
-        advice: "`anhkhovet explain FILE N` of a sector of that grain shows the marker and the entry that leads to \
-                 it. Fetch the image again. Sectors of other grains can be read.",
+        advice: "Fetch the image again. Sectors of other grains can be read. `anhkhovet explain FILE N` of a sector \
+                 of that grain shows the marker, and the entry that leads to it.",
     },
     Rule {
         number: 11,
