@@ -119,3 +119,27 @@ fn course() {
 fn tool() {
     page("TOOL.md", 10);
 }
+
+/// The README tells what its first command prints.
+#[test]
+fn readme() {
+    let text = fs::read_to_string("../../README.md").expect("the README");
+    let mut shown = text
+        .lines()
+        .filter_map(|line| line.trim().strip_prefix("rust/tool/run "));
+    let words = shown
+        .next()
+        .and_then(|line| line.split('#').next())
+        .expect("a command");
+    let output = Command::new("sh")
+        .arg("-c")
+        .arg(format!(
+            "{} '{TOOL}' {words}",
+            std::env::var("ANHKHOVET_RUNNER").unwrap_or_default()
+        ))
+        .current_dir("../..")
+        .output()
+        .expect("a shell");
+    let printed = String::from_utf8_lossy(&output.stdout);
+    assert!(text.contains(&format!("`{}`", printed.trim())), "{printed}");
+}
