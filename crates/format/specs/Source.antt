@@ -35,8 +35,8 @@ entrySource s packed o (Sector e) = grainSource s packed o e
 abbrev pub sourceOf : List ℕ → Header → ℕ → Source
 sourceOf s h x = entrySource s (h .packed) (x % h .«grain_size») (grainEntry s h (x / h .«grain_size»))
 
--- ---- the lookup: 1 to 7, 20, then of 8 to 10 only directory sector 0 and the whole directory, and the table and the grain
--- that x leads to
+-- ---- the lookup: 1 to 7 and 43, 20, then of 8 to 10 only directory sector 0 and the whole directory, and the table and the
+-- grain that x leads to
 unfoldable pub lookupGrain : List ℕ → Header → ℕ → ℕ → ℕ → LookupAnswer
 lookupGrain s h g o e =
     pick (endsPast (fileSectors s) (area e (grainSectors s (h .packed) (h .«grain_size») e))) (Refused (GrainPast g))

@@ -25,7 +25,7 @@ abbrev pub entryByte : ℕ → ℕ → ℕ
 entryByte t k = 512 * t + 4 * k
 
 -- ---- how far the lookup comes
--- no further than the header and 20
+-- 1 to 7, 43 and 20: nothing is told
 unfoldable pub noWay : Way
 noWay =
     record {
@@ -73,7 +73,7 @@ toTable s h g t =
       «table_entry» = entryAt s t (g % h .«entries_per_table»);
     }
 
--- ---- by the lookup's own tests: 8 with place 4, then 20 and 8 with place 2, then 1 to 7
+-- ---- by the lookup's own tests: 8 with place 4, then 20 and 8 with place 2, then 1 to 7 and 43
 unfoldable pub wayTable : List ℕ → Header → ℕ → Entry → Way
 wayTable s h g Absent = toDirectory s h g
 wayTable s h g Zero = toDirectory s h g

@@ -96,8 +96,8 @@ pub const RULES: &[Rule] = &[
     Rule {
         number: 41,
         rule: "A start of a stream is closed where its directory is at the end and there is no redundant one; it has \
-               at most 2^31 sectors; overhead, where its grains begin, is at least 2 and at most F; and the \
-               descriptor's two numbers are both zero, or both not and the descriptor lies wholly between header and \
+               at most 2^31 sectors; overhead, where its grains begin, is at least 2 and at most F, the file's \
+               length / 512 rounded down; and the descriptor's two numbers are both zero, or both not and the descriptor lies wholly between header and \
                overhead.",
         place: NOWHERE,
         cause: "The image is no stream, or a stream with its directory at the start; or so little of it came that \

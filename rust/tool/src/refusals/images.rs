@@ -81,7 +81,7 @@ pub const RULES: &[Rule] = &[
         place: "The part, by the numbers above; the lowest that applies. A lookup gives 2 and 4 alone.",
         cause: "A file that was cut short, or a damaged header or directory.",
         advice: "Compare the file's length with that of the original, and copy it again. Where the part is 1, 3 or \
-                 5, `sector`, `read`, `map` and `digest` answer all the same.",
+                 5, `sector`, `explain`, `read`, `map` and `digest` answer all the same.",
     },
     Rule {
         number: 9,
@@ -113,8 +113,8 @@ pub const RULES: &[Rule] = &[
         cause: "A program that was stopped between the two writes, or one that keeps the primary tables alone up to \
                 date.",
         advice: "`anhkhovet mend --good primary FILE` and `--good redundant` list the entries that differ; with `-o \
-                 OUT` they write a mended copy. `sector`, `read`, `map` and `digest` go by the primary tables, and \
-                 answer all the same.",
+                 OUT` they write a mended copy. `sector`, `explain`, `read`, `map` and `digest` go by the primary \
+                 tables, and answer all the same.",
     },
     Rule {
         number: 12,
