@@ -19,6 +19,7 @@ use Rattle.format.specs.Areas.{redundantTables, footerArea, lastArea}
 use Rattle.format.specs.Check.{check}
 use Rattle.format.specs.CheckIn.{checkIn, listAfterCheck}
 use Rattle.format.specs.Source.{sectorLookup}
+use Rattle.format.specs.Way.{lookupSteps}
 use Rattle.format.specs.Chain.{chainLookup}
 use Rattle.format.specs.Collapse.{normal, collapse}
 use Rattle.format.specs.Frame.{frameFrom, frame, frameList}
@@ -38,6 +39,7 @@ use Rattle.base.proofs.SameBytes.{within, number-same}
 use Rattle.laws.proofs.SameAreas.{areas-both, areas-row, area-there, area-named}
 use Rattle.format.proofs.SameHeader.{SameHead, head-sizes, judge-same}
 use Rattle.laws.proofs.UsedAnswers.{used-check, used-lookup, used-frame, used-list, used-row}
+use Rattle.laws.proofs.UsedSteps.{used-steps}
 use Rattle.laws.proofs.UsedCheckIn.{used-check-in, used-lent}
 use Rattle.laws.proofs.UsedChain.{used-chain}
 use Rattle.laws.proofs.UsedCollapse.{used-collapse, used-normal}
@@ -168,6 +170,9 @@ module _ (s t : List ℕ) (both : SameFrame s t) where
 
   pub frame-decides-lookup : (x : ℕ) → sectorLookup s x ≡ sectorLookup t x
   frame-decides-lookup = used-lookup s t decides
+
+  pub frame-decides-steps : (x : ℕ) → lookupSteps s x ≡ lookupSteps t x
+  frame-decides-steps = used-steps s t decides
 
   pub frame-decides-header : judge s ≡ judge t
   frame-decides-header = decides .judged

@@ -30,7 +30,8 @@ use Rattle.format.specs.Close.{closeJudged, close, tailWritten, closeOutput}
 use Rattle.format.specs.Frame.{frameFrom, frame, listAfter, frameList}
 use Rattle.format.specs.Survey.{rowFrom, rowOf}
 use Rattle.format.specs.Mend.{mendFrom, mend, afterMend, mendedImage, mendedList}
-use Rattle.format.specs.Answers.{headerNumbers}
+use Rattle.format.specs.Answers.{headerNumbers, stepsNumbers}
+use Rattle.format.specs.Way.{noWay, wayFrom, lookupSteps}
 use Rattle.format.specs.declared.Taken.the-variants.{KdmvAlone, Either}
 use Rattle.format.specs.declared.Header.{Header}
 use Rattle.format.specs.declared.Side.{Side}
@@ -90,6 +91,11 @@ module _ (s : List ℕ) (c : CowdFile s) where
 
   pub reader-gone : (x : ℕ) → answerPart (sectorLookup s x) ≡ record { at = 0; length = 0 }
   reader-gone x = rw (lookup-gone x)
+
+  -- the lookup's steps: nothing of the way is told
+  pub steps-gone : (x : ℕ) → lookupSteps s x ≡ stepsNumbers noWay (notFound KindGone)
+  unfolding wayFrom lookupFrom
+  steps-gone x = rw header-gone
 
   -- the normal form: before 23, 27 and 21
   pub normal-gone : (room : ℕ) → normal s room ≡ unwritten KindGone

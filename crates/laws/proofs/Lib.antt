@@ -114,3 +114,4 @@ pub mod ClosedCount
 pub mod KindGone
 pub mod StepsTold
 pub mod MovedDecides
+pub mod UsedSteps

@@ -14,6 +14,7 @@ use Rattle.format.specs.Frame.{frame, frameList}
 use Rattle.format.specs.Survey.{rowOf}
 use Rattle.format.specs.Entries.{entryAt, grainSectors, markerSize}
 use Rattle.format.specs.Source.{grainSource, lookupFrom, sectorLookup, sourceBytes, answerBytes, read}
+use Rattle.format.specs.Way.{lookupSteps}
 use Rattle.format.specs.Chain.{chainLookup}
 use Rattle.format.specs.declared.Header.{Header}
 use Rattle.format.specs.declared.Source.{Source}
@@ -29,6 +30,7 @@ use Rattle.base.proofs.SameBytes.{number-same, part-same}
 use Rattle.format.proofs.SameHeader.{SameHead, head-sizes, judge-same}
 use Rattle.laws.proofs.UnusedLookup.{SameAnswer, refused, found, InFile, unused-lookup}
 use Rattle.laws.proofs.UsedAnswers.{used-check, used-lookup, used-frame, used-list, used-row}
+use Rattle.laws.proofs.UsedSteps.{used-steps}
 use Rattle.laws.proofs.UsedCheckIn.{used-check-in, used-lent}
 use Rattle.laws.proofs.UsedChain.{used-chain}
 
@@ -106,6 +108,9 @@ module _ (s t : List ℕ) (both : SameSectors s t) where
 
   pub never-used-lookup : (x : ℕ) → sectorLookup s x ≡ sectorLookup t x
   never-used-lookup = used-lookup s t never-used
+
+  pub never-used-steps : (x : ℕ) → lookupSteps s x ≡ lookupSteps t x
+  never-used-steps = used-steps s t never-used
 
   pub never-used-frame : (list : List ℕ) → (frame s (length list) ≡ frame t (length list))
       × (frameList s list ≡ frameList t list)

@@ -83,7 +83,7 @@ module _ (s t : List ℕ) (h : Header) (sound : Sound h) (same : SameInUse s t h
       abbrev own : List ℕ → Entry
       own u = meaningAt u (h .«one_is_zero») (h .directory) (g / h .«entries_per_table»)
 
-      in-table : (u : ℕ) → own s ≡ Sector u → u + h .«table_sectors» ≤ fileSectors s
+      pub in-table : (u : ℕ) → own s ≡ Sector u → u + h .«table_sectors» ≤ fileSectors s
           → entryAt s u (g % h .«entries_per_table») ≡ entryAt t u (g % h .«entries_per_table»)
       in-table u q i =
           let d = g / h .«entries_per_table» in
