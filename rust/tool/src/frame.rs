@@ -69,7 +69,8 @@ pub fn ends(layer: &Layer) -> Result<Own, Failure> {
 fn copy_ends(layer: &Layer, own: &mut [u8]) -> Result<(), Failure> {
     let length = own.len();
     layer.read(0, &mut own[..FIRST.min(length)])?;
-    let last = length.saturating_sub(LAST);
+    // From the start of a sector on: a part of a marker alone would count as all of it.
+    let last = length.saturating_sub(LAST) / SECTOR as usize * SECTOR as usize;
     layer.read(last as u64, &mut own[last..])
 }
 
