@@ -1,0 +1,123 @@
+"""Several images: the layers of a chain, and a survey."""
+from __future__ import annotations
+
+from contextlib import ExitStack
+from functools import reduce
+from types import TracebackType
+from typing import Iterable
+
+from . import _calls as calls
+from ._files import PlainFile
+from ._lent import BUFFERS, Memory, of_buffer, own, words
+from ._told import judged, number_of, rows_of, source_of, words_of
+from .answers import Counts, Located, Survey, Tallied
+from .image import Given, Image, collapse
+from .refusals import Refused
+
+# Words of the survey's lists: for each image, and for all numbers that refuse.
+_ROW, _TALLY = 6, 63
+# Refusals of a chain as a whole, which have no layer.
+_WHOLE = (20, 22, 24)
+
+
+def _taken(given: Given, opened: ExitStack) -> Memory | PlainFile:
+    if isinstance(given, Image):
+        return given._lent
+    return of_buffer(given) if isinstance(given, BUFFERS) else opened.enter_context(PlainFile(given))
+
+
+def _end_to_end(given: Iterable[Given]) -> tuple[Memory, list[Image]]:
+    """One memory with the bytes of all images in a row, and each of them as a part of it."""
+    with ExitStack() as opened:
+        sources = [_taken(each, opened) for each in given]
+        whole, at, images = own(sum(source.length for source in sources)), 0, []
+        for source in sources:
+            part = whole.part(at, source.length)
+            if isinstance(source, PlainFile):
+                source.fill(part.view)
+            else:
+                part.view[:] = source.view
+            images.append(Image._of(part, source.path if isinstance(source, PlainFile) else None))
+            at += source.length
+        # All together, so that what is told of them held at one time.
+        for source in sources:
+            if isinstance(source, PlainFile):
+                source.same()
+    return whole, images
+
+
+class Chain:
+    """Images on top of each other, base first: each is an `Image`, a path or a buffer, and its bytes are copied.
+
+    `layers` has them as images of the chain's own. Nothing is judged before a method is called."""
+
+    def __init__(self, layers: Iterable[Given]) -> None:
+        if isinstance(layers, (str, *BUFFERS)):
+            raise TypeError(f"a chain is made of a list of images, not of one {type(layers).__name__}")
+        whole, images = _end_to_end(layers)
+        self._memory: Memory | None = whole
+        self.layers: tuple[Image, ...] = tuple(images)
+        self._lengths = words_of(len(image) for image in images)
+
+    @property
+    def _lent(self) -> Memory:
+        if self._memory is None:
+            raise ValueError("the chain is closed")
+        return self._memory
+
+    def close(self) -> None:
+        """Lets go of the bytes, those of the layers too."""
+        self._memory = None
+        for layer in self.layers:
+            layer.close()
+
+    def __enter__(self) -> Chain:
+        self._lent
+        return self
+
+    def __exit__(self, kind: type[BaseException] | None, error: BaseException | None, trace: TracebackType | None) -> None:
+        self.close()
+
+    def __len__(self) -> int:
+        return len(self.layers)
+
+    def lookup(self, sector: int) -> Located:
+        """Where a virtual sector comes from: the topmost layer in which it is not absent, else layer 0 and absent.
+        Refusals: 24 for no layer or over 16; 1 to 7 and 43 of each header from the top down; 22; 20; 8 to 10 of each layer that
+        is met on the way down."""
+        said = calls.chain(self._lent, self._lengths, number_of(sector))
+        if said.number:
+            raise Refused(said.number, said.place, layer=None if said.number in _WHOLE else said.layer)
+        return Located(said.layer, source_of(said))
+
+    def read(self, sector: int) -> bytes:
+        """The bytes behind a sector's source, as `Image.read` has them. Refusals are the lookup's."""
+        return self.layers[self.lookup(sector).layer].read(sector)
+
+    def collapse(self) -> Image:
+        """One image that reads as the chain does, in normal form. Refusals are those of `collapse`, of the lowest layers first, and
+        24 for no layer."""
+        if not self.layers:
+            self.lookup(0)
+        first, *others = self.layers
+        return reduce(collapse, others, first) if others else first.normal()
+
+
+def _row(row: list[int]) -> Counts | Refused:
+    stored, zero, absent, packed, number, place = row
+    return Refused(number, place) if number else Counts(stored, zero, absent, packed)
+
+
+def survey(images: Iterable[Given]) -> Survey:
+    """Checks 1 to 1,024 images, and counts the grains of those that are accepted. Refusal: 24. What the check refuses an image for
+    stands in its row. All of them are in memory at one time."""
+    if isinstance(images, (str, *BUFFERS)):
+        raise TypeError(f"a survey is of a list of images, not of one {type(images).__name__}")
+    whole, parts = _end_to_end(images)
+    rows, tally = words(_ROW * len(parts)), words(_TALLY)
+    said = judged(calls.survey(whole, words_of(len(part) for part in parts), rows, tally))
+    return Survey(
+        tuple(_row(row) for row in rows_of(rows, _ROW, len(parts))),
+        Counts(said.stored, said.zero, said.absent, said.packed),
+        tuple(Tallied(number, count) for number, count in enumerate(tally, 1) if count),
+    )
