@@ -1,12 +1,17 @@
 """What the sources of the library say, read from them by the tests."""
 from __future__ import annotations
 
+import os
 import re
+import sys
 from pathlib import Path
 
 ROOT = Path(__file__).resolve().parents[3]
 BINDING = ROOT / "rust/anhkhovet/src"
 SAMPLES = ROOT / "samples"
+
+# What starts this Python: an emulator stands before it where the library is of another processor.
+PYTHON = [*os.environ.get("ANHKHOVET_RUNNER", "").split(), sys.executable]
 
 _STRING = r'"((?:[^"\\]|\\.|\\\n\s*)*)"'
 
