@@ -1,4 +1,4 @@
-"""Each call of the library, with its answer as the library's own struct: number 0 is an answer, and what does not apply is 0."""
+"""Each call of the library, with its answer as the library's own struct: number 0 is an answer, what does not apply is 0."""
 from __future__ import annotations
 
 import ctypes

@@ -59,7 +59,7 @@ def left() -> int:
         end = _end_of_stack()
     except OSError:
         return 0
-    return int.from_bytes(context[_POINTER : _POINTER + 8], "little") - end if _C.getcontext(context) == 0 else 0
+    return int.from_bytes(context.raw[_POINTER : _POINTER + 8], "little") - end if _C.getcontext(context) == 0 else 0
 
 
 def _elsewhere(call: Callable[[], Answer]) -> Answer:

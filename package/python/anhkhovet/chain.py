@@ -95,8 +95,8 @@ class Chain:
         return self.layers[self.lookup(sector).layer].read(sector)
 
     def collapse(self) -> Image:
-        """One image that reads as the chain does, in normal form. Refusals are those of `collapse`, of the lowest layers first, and
-        24 for no layer."""
+        """One image that reads as the chain does, in normal form. Refusals are those of `collapse`, of the lowest layers first,
+        and 24 for no layer."""
         if not self.layers:
             self.lookup(0)
         first, *others = self.layers
@@ -109,8 +109,8 @@ def _row(row: list[int]) -> Counts | Refused:
 
 
 def survey(images: Iterable[Given]) -> Survey:
-    """Checks 1 to 1,024 images, and counts the grains of those that are accepted. Refusal: 24. What the check refuses an image for
-    stands in its row. All of them are in memory at one time."""
+    """Checks 1 to 1,024 images, and counts the grains of those that are accepted. Refusal: 24. What the check refuses an image
+    for stands in its row. All of them are in memory at one time."""
     if isinstance(images, (str, *BUFFERS)):
         raise TypeError(f"a survey is of a list of images, not of one {type(images).__name__}")
     whole, parts = _end_to_end(images)

@@ -47,8 +47,8 @@ def _described(text: Memory) -> Descriptor:
 
 
 def descriptor(text: Buffer) -> Descriptor:
-    """Reads a descriptor: the bytes of its file, or what `Image.text` has. Refusals: 36, 31, 30, then the first faulty line (32 to
-    34), 33 for a missing key, 35."""
+    """Reads a descriptor: the bytes of its file, or what `Image.text` has. Refusals: 36, 31, 30, then the first faulty line (32
+    to 34), 33 for a missing key, 35."""
     if not isinstance(text, BUFFERS):
         raise TypeError(f"a descriptor's text is bytes, not {type(text).__name__}")
     return _described(of_buffer(text))
@@ -140,8 +140,8 @@ class Disk:
             return None
 
     def lookup(self, sector: int) -> Placed:
-        """Where a virtual sector comes from. Only its own extent is judged, and only that one's file is read. Refusals: 24 where
-        there is not a file for each extent; 20; then of the sector's own extent 39, 43, 45, those of the check, 38."""
+        """Where a virtual sector comes from. Only its own extent is judged, and only that one's file is read. Refusals: 24
+        where there is not a file for each extent; 20; then of the sector's own extent 39, 43, 45, those of the check, 38."""
         self._open()
         lengths, lent = [0] * len(self._files), own(0)
         number = self._holder(sector)
@@ -154,8 +154,8 @@ class Disk:
         return Placed(said.layer, source_of(said))
 
     def read(self, sector: int) -> bytes:
-        """The bytes behind a sector's source: 512 of a stored one, the payload of a packed grain, none where it is absent or zero.
-        Refusals are the lookup's."""
+        """The bytes behind a sector's source: 512 of a stored one, the payload of a packed grain, none where it is absent or
+        zero. Refusals are the lookup's."""
         placed = self.lookup(sector)
         file = self._files[placed.extent]
         if file is None:

@@ -32,7 +32,7 @@ def words_needed(length: int) -> int:
 class Image:
     """An image: a path, whose file is read whole and need not stay, or a buffer, which is copied unless it is a `bytes`.
 
-    Nothing is judged before a method is called. Each method makes the call of its name, and raises `Refused` where that refuses."""
+    Nothing is judged before a method is called. Each makes the call of its name, and raises `Refused` where that refuses."""
 
     def __init__(self, source: Path | Buffer) -> None:
         if isinstance(source, BUFFERS):
@@ -101,8 +101,8 @@ class Image:
         return Marked(geometry_of(said), said.marked)
 
     def profile(self) -> Geometry:
-        """Whether it meets the lab profile, the one form of what is published: clean, uncompressed, with grains of 128 sectors and
-        equal to its own normal form. Refusals: 1 to 12 and 43, 23, 27, 47, 42."""
+        """Whether it meets the lab profile, the one form of what is published: clean, uncompressed, with grains of 128 sectors
+        and equal to its own normal form. Refusals: 1 to 12 and 43, 23, 27, 47, 42."""
         return geometry_of(judged(calls.profile(self._lent)))
 
     def header(self) -> Header:
@@ -128,8 +128,8 @@ class Image:
         return Part(said.at, said.length)
 
     def read(self, sector: int) -> bytes:
-        """The bytes behind a sector's source: 512 of a stored one, the payload of a packed grain, none where it is absent, zero or
-        refused, which `lookup` tells apart."""
+        """The bytes behind a sector's source: 512 of a stored one, the payload of a packed grain, none where it is absent, zero
+        or refused, which `lookup` tells apart."""
         part = self.read_part(sector)
         return self._lent.view[part.at : part.at + part.length].tobytes()
 
@@ -141,7 +141,7 @@ class Image:
         return tuple(Area(Group(group), first, sectors) for group, first, sectors in rows)
 
     def text(self) -> bytes | None:
-        """The sectors of the descriptor inside the image, for `descriptor`; None where there is none. Refusals are the frame's."""
+        """The sectors of the descriptor inside the image, for `descriptor`; None where there is none. Refused as `frame` is."""
         for area in self.frame():
             if area.group is Group.DESCRIPTOR:
                 return self._lent.view[SECTOR * area.first : SECTOR * (area.first + area.sectors)].tobytes()
@@ -217,8 +217,8 @@ def _mended(memory: Memory, good: Side) -> tuple[Change, ...]:
 
 
 def mend_in(buffer: Buffer, good: Side) -> tuple[Change, ...]:
-    """Mends an image in a buffer that may be written, as `Image.mend` does, and says what changed. On a refusal the buffer keeps
-    what it held. Nobody else may write it meanwhile."""
+    """Mends an image in a buffer that may be written, as `Image.mend` does, and says what changed. On a refusal the buffer
+    keeps what it held. Nobody else may write it meanwhile."""
     if not isinstance(buffer, BUFFERS):
         raise TypeError(f"what is mended is a bytearray, memoryview or mmap, not {type(buffer).__name__}")
     view = memoryview(buffer).cast("B")

@@ -1,4 +1,4 @@
-"""What the classes answer for the stored cases, against the library's own numbers, which test_vectors holds to the stored lines."""
+"""What the classes answer for the stored cases, against the library's own numbers, which test_vectors holds to the lines."""
 import ctypes
 from collections.abc import Callable
 from pathlib import Path
@@ -124,8 +124,8 @@ def text(case: Case) -> None:
         for extent, record in zip(extents, records):
             name = case.data[record.name_at : record.name_at + record.name_length]
             assert extent.name.encode("utf-8", "surrogateescape") == name
-            given = [extent.first, extent.sectors, extent.access.value, extent.kind.value, extent.name_at, len(name), extent.offset]
-            assert given == fields(record)
+            kinds = [extent.access.value, extent.kind.value]
+            assert [extent.first, extent.sectors, *kinds, extent.name_at, len(name), extent.offset] == fields(record)
         for sector in case.sectors:
             agree(calls.find(records, sector), lambda: anhkhovet.find(extents, sector), lambda number: [0, 0, number])
 

@@ -90,7 +90,7 @@ def test_no_plain_file(tmp_path: Path, kind: str) -> None:
             path = Path("/dev/zero")
         begun = time.monotonic()
         for call in (lambda: Image(path), lambda: Chain([BASE, path]), lambda: Disk(path), lambda: survey([path])):
-            with pytest.raises(FileNotFoundError if kind == "missing" else OSError, match="" if kind == "missing" else "no plain file"):
+            with pytest.raises(OSError, match="No such file" if kind == "missing" else "no plain file"):
                 call()
         assert time.monotonic() - begun < 5
 
@@ -149,7 +149,7 @@ def test_files_of_a_disk_are_beside_it(tmp_path: Path) -> None:
     os.symlink("image", inside / "link")
     os.symlink("../image", inside / "out")
     assert Disk(split(inside, 'RW 2048 SPARSE "link"')).lookup(2).source == Stored(130)
-    for name, why in (("../image", "folder in its name"), ("a\\b", "folder in its name"), ("..", "folder"), ("out", "leads out")):
+    for name, why in (("../image", "folder in its"), ("a\\b", "folder in its"), ("..", "folder in its"), ("out", "leads out")):
         with pytest.raises(OSError, match=why):
             Disk(split(inside, f'RW 2048 SPARSE "{name}"')).lookup(2)
     with pytest.raises(FileNotFoundError):

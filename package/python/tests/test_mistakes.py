@@ -61,7 +61,8 @@ def test_closed() -> None:
     for call in (image.check, image.header, image.normal, image.frame, image.check_in, image.close_stream, image.__bytes__):
         with pytest.raises(ValueError, match="closed"):
             call()
-    for take in (lambda: image.lookup(0), lambda: len(image), lambda: image.data, lambda: Chain([image]), lambda: survey([image])):
+    given = (lambda: image.lookup(0), lambda: len(image), lambda: image.data, lambda: Chain([image]), lambda: survey([image]))
+    for take in given:
         with pytest.raises(ValueError, match="closed"):
             take()
     with pytest.raises(ValueError, match="closed"):
@@ -116,7 +117,8 @@ def test_mending_writes_what_may_be_written(tmp_path: Path) -> None:
 def test_every_kind_of_buffer() -> None:
     data = BASE.read_bytes()
     with BASE.open("rb") as file, mmap.mmap(file.fileno(), 0, access=mmap.ACCESS_READ) as mapped:
-        buffers = [data, bytearray(data), memoryview(data), memoryview(array("Q", data)), memoryview(data * 2)[: len(data)], mapped]
+        views = [memoryview(data), memoryview(array("Q", data)), memoryview(data * 2)[: len(data)]]
+        buffers = [data, bytearray(data), *views, mapped]
         assert {Image(each).check() for each in buffers} == {Image(BASE).check()}
     assert Image(memoryview(data)[::-1]).data == data[::-1]
 
@@ -134,11 +136,13 @@ def test_nothing_may_be_written_through_an_image() -> None:
 
 
 def test_empty() -> None:
-    for call in (Image(b"").check, Image(b"").normal, lambda: Image(b"").mend(Side.PRIMARY), lambda: mend_in(bytearray(), Side.PRIMARY)):
+    empty = Image(b"")
+    for call in (empty.check, empty.normal, lambda: empty.mend(Side.PRIMARY), lambda: mend_in(bytearray(), Side.PRIMARY)):
         with pytest.raises(Refused) as refused:
             call()
         assert refused.value.number == 1
-    for refuse in (lambda: Chain([]).lookup(0), lambda: Chain([]).collapse(), lambda: survey([]), lambda: Chain([BASE] * 17).lookup(0)):
+    none, many = Chain([]), Chain([BASE] * 17)
+    for refuse in (lambda: none.lookup(0), none.collapse, lambda: survey([]), lambda: many.lookup(0)):
         with pytest.raises(Refused) as refused:
             refuse()
         assert refused.value.number == 24
