@@ -100,7 +100,18 @@ class Chain:
         if not self.layers:
             self.lookup(0)
         first, *others = self.layers
-        return reduce(collapse, others, first) if others else first.normal()
+        try:
+            return reduce(collapse, others, first) if others else first.normal()
+        except Refused as refused:
+            raise self._at_fault(refused) from None
+
+    def _at_fault(self, refused: Refused) -> Refused:
+        """The same with its layer, which the call does not tell: the lowest that is refused alike by itself."""
+        for number, layer in enumerate(self.layers):
+            said = calls.normal(layer._lent, own(0))
+            if (said.number, said.place) == (refused.number, refused.place):
+                return Refused(refused.number, refused.place, layer=number)
+        return refused
 
 
 def _row(row: list[int]) -> Counts | Refused:

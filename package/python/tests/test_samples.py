@@ -113,6 +113,20 @@ def test_a_download_that_broke_off() -> None:
     assert len(closed.image) == 512 * closed.sectors + closed.tail
 
 
+def test_which_layer_of_a_chain_is_at_fault() -> None:
+    base, middle = SAMPLES / "tool-base.vmdk", (SAMPLES / "tool-middle.vmdk").read_bytes()
+    for layers, number, layer in (
+        ([base, middle[:70000], base], 9, 1),
+        ([middle[:70000], base], 9, 0),
+        ([base, base, SAMPLES / "tool-packed.vmdk"], 23, 2),
+        ([SAMPLES / "cowd-s001.vmdk"], 43, 0),
+        ([base, SAMPLES / "chain-base.vmdk"], 22, None),
+    ):
+        with pytest.raises(Refused) as refused:
+            Chain(layers).collapse()
+        assert (refused.value.number, refused.value.layer) == (number, layer)
+
+
 def test_a_torn_table() -> None:
     sound = (SAMPLES / "tool-base.vmdk").read_bytes()
     table = Image(sound).steps(0).way.table

@@ -2,8 +2,9 @@
 from pathlib import Path
 
 import pytest
-from cases import STORED, cases, lines
+from cases import STORED, cases, fields, lines
 
+from anhkhovet import _calls as calls
 from anhkhovet._face import CALLS
 
 
@@ -17,5 +18,18 @@ def test_stored_lines(stored: Path, wanted: Path) -> None:
 
 def test_every_call_has_stored_lines() -> None:
     met = {line.split()[0] for _, wanted in STORED for line in wanted.read_text().splitlines()}
-    # The steps of a lookup have no stored lines yet: test_samples has them.
+    # The steps of a lookup are held to the lookup, whose lines are stored.
     assert set(CALLS) - met <= {"steps"}
+
+
+def test_steps_are_those_of_the_lookup() -> None:
+    asked = 0
+    for case in (case for stored, _ in STORED for case in cases(stored) if case.asked in (0, 5)):
+        for sector in case.sectors:
+            steps, lookup = calls.steps(case.image, sector), calls.lookup(case.image, sector)
+            told = [steps.number, lookup.layer, steps.place, steps.kind, steps.sector, steps.size, steps.offset]
+            assert told == fields(lookup)
+            for at, entry in ((steps.directory_at, steps.directory_entry), (steps.table_at, steps.table_entry)):
+                assert int.from_bytes(case.data[at : at + 4] if at else b"", "little") == entry
+            asked += 1
+    assert asked > 500
