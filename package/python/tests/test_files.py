@@ -67,6 +67,20 @@ def test_a_file_that_is_written_all_the_time(tmp_path: Path) -> None:
         writer.join()
 
 
+def test_a_file_is_read_when_the_clock_has_gone_on(tmp_path: Path, monkeypatch: pytest.MonkeyPatch) -> None:
+    path, slept = tmp_path / "image", list[float]()
+    path.write_bytes(BASE.read_bytes())
+    written = path.stat().st_ctime_ns
+    monkeypatch.setattr(time, "sleep", slept.append)
+    monkeypatch.setattr(time, "clock_gettime_ns", lambda _: written + (len(slept) == 3))
+    Image(path)
+    assert len(slept) == 3
+    # A clock that was set back does not keep it from being read.
+    monkeypatch.setattr(time, "clock_gettime_ns", lambda _: 0)
+    Image(path)
+    assert 3 < len(slept) < 50
+
+
 def test_a_file_may_go_away(tmp_path: Path) -> None:
     path = tmp_path / "image"
     path.write_bytes(BASE.read_bytes())
@@ -124,13 +138,13 @@ def split(folder: Path, *lines: str) -> Path:
 def test_a_disk_of_every_kind(tmp_path: Path) -> None:
     (tmp_path / "image").write_bytes(BASE.read_bytes())
     (tmp_path / "plain").write_bytes(b"z" * 4096)
-    lines = ['RW 2048 SPARSE "image"', "RW 8 ZERO", 'RW 4 FLAT "plain" 4', 'RW 9 VMFS "plain"', "NOACCESS 8 ZERO"]
+    lines = ['RW 2048 SPARSE "image"', "RW 8 ZERO", 'RW 4 FLAT "plain" 4', 'RW 9 VMFS "plain"', 'NOACCESS 8 SPARSE "gone"']
     disk = Disk(split(tmp_path, *lines, 'RW 8 VMFSSPARSE "gone"'))
     assert disk.capacity == 2085 and disk.find(2057) == 2
     assert disk.lookup(2) == Placed(0, Stored(130)) and disk.read(2) == Image(BASE).read(2)
     assert disk.lookup(2050) == Placed(1, anhkhovet.Zero()) and disk.read(2050) == b""
     assert disk.lookup(2057) == Placed(2, Stored(5)) and disk.read(2057) == b"z" * 512
-    # A VMFSSPARSE extent is refused by its line alone: its file need not be there.
+    # NOACCESS and VMFSSPARSE are refused by the line alone: the file need not be there.
     for sector, number, extent in ((2060, 45, 3), (2069, 39, 4), (2077, 43, 5), (2085, 20, None)):
         with pytest.raises(Refused) as refused:
             disk.lookup(sector)
