@@ -5,9 +5,7 @@
 #define NBDKIT_API_VERSION 2
 #include <nbdkit-plugin.h>
 
-#include <errno.h>
 #include <stdlib.h>
-#include <string.h>
 #include <sys/mman.h>
 
 /* The check's marks are in a list, since nobody knows how much stack there is here. */
@@ -76,7 +74,7 @@ static int own_all(Chain *chain)
     if (length < SIZE_MAX)
         bytes = mmap(NULL, length + 1, PROT_READ | PROT_WRITE, MAP_PRIVATE | MAP_ANONYMOUS | MAP_NORESERVE, -1, 0);
     if (bytes == MAP_FAILED) {
-        nbdkit_error("the files are too long to be mapped: %s", strerror(errno));
+        nbdkit_error("the files are too long to be mapped: %m");
         return -1;
     }
     /* A large page for each table that stands alone would take 2 MiB. */
@@ -125,7 +123,7 @@ int chain_open(Chain *chain, const char *const *paths, size_t count)
     chain->grain_size = head.grain_size;
     /* From here on threads share it. */
     if (mprotect(chain->own.bytes, chain->own.length + 1, PROT_READ) != 0) {
-        nbdkit_error("what was checked cannot be protected: %s", strerror(errno));
+        nbdkit_error("what was checked cannot be protected: %m");
         return -1;
     }
     return chain_same(chain);

@@ -33,7 +33,7 @@ static char *shown(const char *path)
 static int failed(const Layer *layer, const char *tried)
 {
     int error = errno;
-    nbdkit_error("%s: %s: %s", layer->name, tried, strerror(error));
+    nbdkit_error("%s: %s: %m", layer->name, tried);
     errno = error;
     return -1;
 }

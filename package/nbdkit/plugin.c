@@ -167,7 +167,8 @@ static uint32_t extent_type(uint64_t kind)
     }
 }
 
-/* One question a grain, as the tool's map: a grain's sectors are of one kind. nbdkit puts neighbours together. */
+/* One question a grain, as the tool's map: a grain's sectors are of one kind. nbdkit puts neighbours together, and cuts the
+   last one off at the end. */
 static int chain_extents(void *handle, uint32_t count, uint64_t offset, uint32_t flags, struct nbdkit_extents *extents)
 {
     (void)handle;
@@ -183,8 +184,7 @@ static int chain_extents(void *handle, uint32_t count, uint64_t offset, uint32_t
             first = type;
         if ((flags & NBDKIT_FLAG_REQ_ONE) != 0 && type != first)
             break;
-        uint64_t length = grain - at % grain;
-        if (nbdkit_add_extent(extents, at, length < end - at ? length : end - at, type) != 0)
+        if (nbdkit_add_extent(extents, at, grain - at % grain, type) != 0)
             return -1;
     }
     return chain_same(&chain);

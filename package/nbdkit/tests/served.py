@@ -6,7 +6,7 @@ import tempfile
 import time
 import unittest
 from pathlib import Path
-from typing import List, Optional, Sequence, Tuple
+from typing import Dict, List, Optional, Sequence, Tuple
 
 ROOT = Path(__file__).resolve().parents[3]
 SAMPLES = ROOT / "samples"
@@ -82,7 +82,7 @@ class Served:
     def runs(self) -> Runs:
         """Offset, length and type of each run, by nbdinfo."""
         found = json.loads(run("nbdinfo", "--map", "--json", self.uri).stdout)
-        return joined([(run["offset"], run["length"], run["type"]) for run in found])
+        return joined([(part["offset"], part["length"], part["type"]) for part in found])
 
 
 def joined(runs: Runs) -> Runs:
@@ -95,10 +95,15 @@ def joined(runs: Runs) -> Runs:
     return all_runs
 
 
+def mapped_runs(*layers: object) -> List[Dict[str, object]]:
+    """What the tool's map says."""
+    return json.loads(run(TOOL, "map", "--json", *layers).stdout)["runs"]
+
+
 def mapped(*layers: object) -> Runs:
-    """The same by the tool's map."""
-    found = json.loads(run(TOOL, "map", "--json", *layers).stdout)
-    return joined([(512 * run["first"], 512 * run["sectors"], TYPES[run["kind"]]) for run in found["runs"]])
+    """Offset, length and type of each run, by the tool's map."""
+    found = mapped_runs(*layers)
+    return joined([(512 * part["first"], 512 * part["sectors"], TYPES[part["kind"]]) for part in found])
 
 
 def converted(image: object) -> bytes:

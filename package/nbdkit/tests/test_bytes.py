@@ -7,7 +7,7 @@ from concurrent.futures import ThreadPoolExecutor
 from pathlib import Path
 from typing import Tuple
 
-from served import PATIENCE, SAMPLES, Case, Served, converted, made, mapped, run
+from served import PATIENCE, SAMPLES, Case, Served, converted, made, mapped, mapped_runs, run
 import served
 from wire import Client
 
@@ -76,6 +76,15 @@ class Bytes(Case):
         # The order of layers counts.
         with Served(layers[1], layers[0], layers[2]) as server:
             self.assertNotEqual(server.copied(), disk)
+
+    def test_layers_in_a_row(self) -> None:
+        """Grains in a row that stand at places in a row, but in two files, are read from both"""
+        base = made(self.folder / "base.vmdk", "1M", "write -q -P 1 0 64k", "write -q -P 2 64k 64k")
+        top = made(self.folder / "top.vmdk", "1M", "write -q -P 4 512k 64k", "write -q -P 3 64k 64k", below=base)
+        places = [(run["layer"], run["file_sector"]) for run in mapped_runs(base, top)[:2]]
+        self.assertEqual(places, [(0, 128), (1, 256)])
+        with Served(base, top) as server:
+            self.assertEqual(server.copied(), converted(top))
 
     def test_maps(self) -> None:
         """nbdinfo --map of samples and of their chains agrees with the tool's map"""

@@ -95,6 +95,20 @@ class Refused(Case):
             file.write(b"\1")
         self.refuses(f"{image}: refused 10 at grain 0", image)
 
+    def test_two_tables_outside(self) -> None:
+        """A primary table outside the file is named before a redundant one that the file's last bytes name"""
+        image = self.copy("tool-base.vmdk")
+        data = bytearray(image.read_bytes())
+        outside = bytes([255, 255, 255, 127])
+        data[48:56] = (len(data) // 512).to_bytes(8, "little")
+        data += outside + bytes(508)
+        image.write_bytes(data)
+        self.refuses(f"{image}: refused 8: a redundant table does not lie inside the file", image)
+        directory = 512 * int.from_bytes(data[56:64], "little")
+        data[directory:directory + 4] = outside
+        image.write_bytes(data)
+        self.refuses(f"{image}: refused 8: a primary table does not lie inside the file", image)
+
     def test_still_open(self) -> None:
         """A disk that was still open is served, and that is said"""
         image = self.copy("tool-base.vmdk")
