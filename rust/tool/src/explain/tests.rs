@@ -99,6 +99,23 @@ fn follows(way: &Value, packed: bool) -> &'static str {
     }
 }
 
+/// Holds what is said of an entry to what it means.
+fn said(way: &Value, step: &Value) {
+    let (part, key) = match step["name"].as_str() {
+        Some("directory entry") => ("table", "directory"),
+        Some("table entry") => ("grain", "table"),
+        _ => return,
+    };
+    let entry = way[key]["entry"].as_u64().expect("an entry");
+    let says = match (entry, way["one_is_zero"] == true) {
+        (0, _) => "absent".to_string(),
+        (1, true) => "zeros".to_string(),
+        _ => format!("the {part} begins at file sector {entry}"),
+    };
+    let words = step["words"].as_str().expect("words");
+    assert!(words.ends_with(&says), "{words}");
+}
+
 /// Looks at one sector, and tells how its way ends.
 fn end_of(image: &[u8], sector: u64) -> String {
     let walk = match Walk::of(image, sector, Below::Unknown) {
@@ -115,6 +132,7 @@ fn end_of(image: &[u8], sector: u64) -> String {
     let mut sums = 0;
     for step in steps {
         sums += reckon(step["words"].as_str().expect("words"));
+        said(&way, step);
         for stand in step["stand"].as_array().expect("a list") {
             let bytes = stand["bytes"].as_str().expect("digits");
             let at = stand["offset"].as_u64().expect("a place") as usize;
