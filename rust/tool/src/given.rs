@@ -12,7 +12,11 @@ use crate::still_open::OpenImages;
 use crate::stretch::Stretch;
 use anhkhovet::Located;
 use serde_json::Value;
+use std::ops::Range;
 use std::path::{Path, PathBuf};
+
+/// As much is read and told at once: whole sectors. The payload of a packed grain may be as long as the file.
+const PART: u64 = 1 << 20;
 
 pub enum Given {
     Layers(Layers),
@@ -107,6 +111,25 @@ impl Given {
             Given::Layers(layers) => layers.same(),
             Given::Split(split) => split.same(),
         }
+    }
+
+    /// Hands over these bytes of a file, part by part, each read before the files were looked at and found unchanged.
+    pub fn each_part(
+        &self,
+        file: usize,
+        bytes: Range<u64>,
+        take: &mut impl FnMut(&[u8]) -> Result<(), Failure>,
+    ) -> Result<(), Failure> {
+        let file = &self.files()[file];
+        let Range { start: mut at, end } = bytes;
+        while at < end {
+            let next = end.min(at + PART);
+            let bytes = file.part(at..next)?;
+            self.same()?;
+            take(&bytes)?;
+            at = next;
+        }
+        Ok(())
     }
 
     /// Whether the disk has a sector, or the refusal.

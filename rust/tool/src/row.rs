@@ -13,7 +13,7 @@ use serde_json::json;
 use std::ops::Range;
 use std::path::PathBuf;
 
-/// As much is read and told at once: whole sectors.
+/// As many zeros are told at once: whole sectors.
 const PART: u64 = 1 << 20;
 
 struct Row {
@@ -39,27 +39,11 @@ impl Row {
         let mut at = self.sectors.start * SECTOR;
         for run in &self.runs {
             zeros(at..run.at, &mut take)?;
-            self.stored(run, &mut take)?;
+            self.given
+                .each_part(run.file, run.bytes.clone(), &mut take)?;
             at = run.end();
         }
         zeros(at..self.sectors.end * SECTOR, &mut take)
-    }
-
-    fn stored(
-        &self,
-        run: &Run,
-        take: &mut impl FnMut(&[u8]) -> Result<(), Failure>,
-    ) -> Result<(), Failure> {
-        let file = &self.given.files()[run.file];
-        let Range { start: mut at, end } = run.bytes;
-        while at < end {
-            let next = end.min(at + PART);
-            let bytes = file.part(at..next)?;
-            self.given.same()?;
-            take(&bytes)?;
-            at = next;
-        }
-        Ok(())
     }
 
     fn print(&self) -> Result<(), Failure> {

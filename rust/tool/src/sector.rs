@@ -9,11 +9,7 @@ use crate::print::{self, Printer};
 use crate::source;
 use anhkhovet::{Located, Source, SECTOR};
 use serde_json::{json, Value};
-use std::ops::Range;
 use std::path::PathBuf;
-
-/// As much is read and told at once: the payload of a packed grain may be as long as the file.
-const PART: u64 = 1 << 20;
 
 pub fn sector(paths: &[PathBuf], sector: u64, json: bool) -> Result<(), Failure> {
     let mut given = Given::at(paths, sector)?;
@@ -47,16 +43,7 @@ impl Content {
             return take(&[0; SECTOR as usize]);
         }
         let place = self.given.place(&self.found, self.sector, 1);
-        let file = &self.given.files()[place.file];
-        let Range { start: mut at, end } = place.bytes;
-        while at < end {
-            let next = end.min(at + PART);
-            let bytes = file.part(at..next)?;
-            self.given.same()?;
-            take(&bytes)?;
-            at = next;
-        }
-        Ok(())
+        self.given.each_part(place.file, place.bytes, &mut take)
     }
 
     fn print(&self) -> Result<(), Failure> {
