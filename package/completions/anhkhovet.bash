@@ -27,6 +27,9 @@ _anhkhovet() {
             anhkhovet,digest)
                 cmd="anhkhovet__digest"
                 ;;
+            anhkhovet,explain)
+                cmd="anhkhovet__explain"
+                ;;
             anhkhovet,header)
                 cmd="anhkhovet__header"
                 ;;
@@ -81,6 +84,9 @@ _anhkhovet() {
             anhkhovet__help,digest)
                 cmd="anhkhovet__help__digest"
                 ;;
+            anhkhovet__help,explain)
+                cmd="anhkhovet__help__explain"
+                ;;
             anhkhovet__help,header)
                 cmd="anhkhovet__help__header"
                 ;;
@@ -127,7 +133,7 @@ _anhkhovet() {
 
     case "${cmd}" in
         anhkhovet)
-            opts="-h -V --json --help --version check profile survey sector read map digest raw header refusals describe collapse normal mend move close picture help"
+            opts="-h -V --json --help --version check profile survey sector read map explain digest raw header refusals describe collapse normal mend move close picture help"
             if [[ ${cur} == -* || ${COMP_CWORD} -eq 1 ]] ; then
                 COMPREPLY=( $(compgen -W "${opts}" -- "${cur}") )
                 return 0
@@ -250,6 +256,20 @@ _anhkhovet() {
             COMPREPLY=( $(compgen -W "${opts}" -- "${cur}") )
             return 0
             ;;
+        anhkhovet__explain)
+            opts="-h --strict --json --help <FILE>... <N>"
+            if [[ ${cur} == -* || ${COMP_CWORD} -eq 2 ]] ; then
+                COMPREPLY=( $(compgen -W "${opts}" -- "${cur}") )
+                return 0
+            fi
+            case "${prev}" in
+                *)
+                    COMPREPLY=()
+                    ;;
+            esac
+            COMPREPLY=( $(compgen -W "${opts}" -- "${cur}") )
+            return 0
+            ;;
         anhkhovet__header)
             opts="-h --json --help <FILE>"
             if [[ ${cur} == -* || ${COMP_CWORD} -eq 2 ]] ; then
@@ -265,7 +285,7 @@ _anhkhovet() {
             return 0
             ;;
         anhkhovet__help)
-            opts="check profile survey sector read map digest raw header refusals describe collapse normal mend move close picture help"
+            opts="check profile survey sector read map explain digest raw header refusals describe collapse normal mend move close picture help"
             if [[ ${cur} == -* || ${COMP_CWORD} -eq 2 ]] ; then
                 COMPREPLY=( $(compgen -W "${opts}" -- "${cur}") )
                 return 0
@@ -335,6 +355,20 @@ _anhkhovet() {
             return 0
             ;;
         anhkhovet__help__digest)
+            opts=""
+            if [[ ${cur} == -* || ${COMP_CWORD} -eq 3 ]] ; then
+                COMPREPLY=( $(compgen -W "${opts}" -- "${cur}") )
+                return 0
+            fi
+            case "${prev}" in
+                *)
+                    COMPREPLY=()
+                    ;;
+            esac
+            COMPREPLY=( $(compgen -W "${opts}" -- "${cur}") )
+            return 0
+            ;;
+        anhkhovet__help__explain)
             opts=""
             if [[ ${cur} == -* || ${COMP_CWORD} -eq 3 ]] ; then
                 COMPREPLY=( $(compgen -W "${opts}" -- "${cur}") )

@@ -5,7 +5,10 @@ use crate::numbers;
 use clap::{value_parser, Arg, ArgAction, Command};
 use std::path::PathBuf;
 
-const STATUS: &str = "\
+/// The package's, said once.
+const VERSION: &str = include_str!("../../../package/VERSION");
+
+pub const STATUS: &str = "\
 Exit status, of several files the greatest:
   0  yes
   1  refused by the rules of the format
@@ -66,7 +69,7 @@ pub fn subcommand(name: &'static str) -> Command {
 pub fn command() -> Command {
     let command = Command::new("anhkhovet")
         .about("Reads VMDK sparse disk images, and moves COWD ones to that kind, by a library that is proved")
-        .version(env!("CARGO_PKG_VERSION"))
+        .version(VERSION.trim_end())
         .after_help(STATUS)
         .subcommand_required(true)
         .arg_required_else_help(true)

@@ -55,6 +55,8 @@ mod names;
 mod numbers;
 mod output;
 mod own;
+#[cfg(test)]
+mod packaged;
 mod parents;
 mod picture;
 mod place;
