@@ -28,7 +28,8 @@ class Counted:
 def main(words: list[str]) -> int:
     here = Path(__file__).resolve().parent
     counted = Counted()
-    status = pytest.main(["-q", "-p", "no:cacheprovider", "-rs", *(words or [str(here)])], plugins=[counted])
+    named = [] if any(not word.startswith("-") for word in words) else [str(here)]
+    status = pytest.main(["-q", "-p", "no:cacheprovider", "-rs", *words, *named], plugins=[counted])
     failed = len(counted.broken) or int(status != 0)
     print(f"{len(counted.met - counted.broken)} passed, {failed} failed")
     return int(failed > 0)

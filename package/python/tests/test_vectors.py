@@ -18,8 +18,7 @@ def test_stored_lines(stored: Path, wanted: Path) -> None:
 
 def test_every_call_has_stored_lines() -> None:
     met = {line.split()[0] for _, wanted in STORED for line in wanted.read_text().splitlines()}
-    # The steps of a lookup are held to the lookup, whose lines are stored.
-    assert set(CALLS) - met <= {"steps"}
+    assert set(CALLS) <= met
 
 
 def test_steps_are_those_of_the_lookup() -> None:
