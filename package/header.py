@@ -98,11 +98,11 @@ def refusals(header):
 
 
 def numbers_in(text):
-    """All numbers of a list such as `1 to 7 and 43, 20`."""
-    found = set()
+    """The numbers of a list such as `1 to 7 and 43, 20`, in its order; 43, which the header says apart, at the end."""
+    found = []
     for first, last in re.findall(r"\b(\d+)(?: to (\d+))?", text):
-        found |= set(range(int(first), int(last or first) + 1))
-    return sorted(found)
+        found += range(int(first), int(last or first) + 1)
+    return sorted(found, key=lambda number: number == 43)
 
 
 def given(header):

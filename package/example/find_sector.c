@@ -52,9 +52,12 @@ int main(int count, char **words)
 {
     size_t length;
     uint8_t *image;
-    uint64_t sector;
+    uint64_t sector = 0;
+    char *end = NULL;
     int status;
-    if (count != 3) {
+    if (count == 3)
+        sector = strtoull(words[2], &end, 10);
+    if (count != 3 || end == words[2] || *end != '\0') {
         fprintf(stderr, "use: find_sector IMAGE SECTOR\n");
         return 2;
     }
@@ -63,7 +66,6 @@ int main(int count, char **words)
         perror(words[1]);
         return 4;
     }
-    sector = strtoull(words[2], NULL, 10);
     status = tell(sector, anhkhovet_lookup(image, length, sector));
     free(image);
     return status;

@@ -5,11 +5,15 @@
  * file. Any bytes and any numbers may be handed in: what breaks a rule is refused. Several threads may make calls at once.
  *
  * A slice is a pointer and a count of elements: `image` and `image_length`. The pointer may be null where the count is 0.
- * What a slice without `const` lends overlaps nothing else that is lent, and nobody else writes what is lent meanwhile.
+ * What a slice without `const` lends overlaps nothing else that is lent, and nobody else writes what is lent meanwhile. Bytes
+ * may stand at any address. Several images or files are one slice, end to end; their lengths add up to exactly its count (24).
  *
- * Answers are structs of 64-bit numbers. `number` is 0 for an answer, else that of the refusal (AnhkhovetRefusal), and
- * `place` says where: a part for 8 (AnhkhovetMisplacedPart), a grain for 9 and 10, a byte of the file for 42, a line for 32
- * to 34, else 0. What does not apply is 0. After a refusal lent memory holds what it held, but for anhkhovet_check_in.
+ * Answers are structs of 64-bit numbers. `number` is 0 for an answer, else that of the refusal (AnhkhovetRefusal). Look at it
+ * first: what does not apply is 0, so a refusal has the `kind` of an absent sector. `place` says where: a part for 8
+ * (AnhkhovetMisplacedPart), a grain for 9 and 10, a line for 32 to 34 (33 has 0 where a key is missing, else the line that has
+ * it twice or wrong), for 42 the first byte that differs, which is the file's length where it ends too soon; else 0. A call's
+ * refusals are listed in the order in which they are asked, 43 after 2, and the first that applies is given. After it lent
+ * memory holds what it held, but for the list of anhkhovet_check_in after 12.
  *
  * A sector is 512 bytes. An image stores its disk in grains of some sectors each; an entry of a table says where a grain
  * is, and an entry of the directory where a table is. Everything is counted from 0, but lines are from 1.
@@ -26,10 +30,11 @@
 extern "C" {
 #endif
 
-#define ANHKHOVET_SECTOR 512 /* Its bytes. */
+/* Bytes of a sector. */
+#define ANHKHOVET_SECTOR 512
 
-/* Bytes of stack that are enough for any call. Nine need as much: check, profile, survey, normal, collapse, to_kdmv, to_cowd,
-   split and mend. Each other call does with less than 16 KiB. */
+/* Bytes of stack that are enough for any call, beside what its thread uses itself. Nine need as much: check, profile, survey,
+   normal, collapse, to_kdmv, to_cowd, split and mend. Each other call does with less than 16 KiB. */
 #define ANHKHOVET_STACK ((1 << 20) + (1 << 16))
 
 /* As many as a call takes: layers of a chain, images of a survey, extents of a descriptor. */
@@ -46,7 +51,12 @@ extern "C" {
 /* Words that anhkhovet_check_in needs for a file of so many bytes: one for every 64 sectors, rounded up. */
 #define ANHKHOVET_MARK_WORDS(length) ((length) / ANHKHOVET_SECTOR / 64 + ((length) / ANHKHOVET_SECTOR % 64 != 0))
 
-/* Why a call refuses. docs/REFUSALS.md has for each number its rule, its usual cause and what to try. */
+/* Bytes that are enough for what normal, collapse, to_kdmv and to_cowd write of images of so many bytes together: capacity is
+   AnhkhovetHead's, and in COWD the 4 bytes from 12 on. Words that are enough for anhkhovet_frame. */
+#define ANHKHOVET_OUT_BYTES(lengths, capacity) ((lengths) + (capacity) + (1 << 20))
+#define ANHKHOVET_FRAME_WORDS(capacity) ((capacity) / 512 + 24)
+
+/* Why a call refuses. share/anhkhovet/docs/REFUSALS.md has for each number its rule, its usual cause and what to try. */
 enum AnhkhovetRefusal {
     ANHKHOVET_ANSWERED = 0, /* no refusal */
     /* Of an image. */
@@ -112,19 +122,14 @@ enum AnhkhovetSource {
 
 /* First word of an area of anhkhovet_frame: what it holds. Its first sector and its sectors follow. */
 enum AnhkhovetGroup {
-    ANHKHOVET_GROUP_HEADER = 1,
-    ANHKHOVET_GROUP_DESCRIPTOR = 2,
-    ANHKHOVET_GROUP_DIRECTORY = 3,
-    ANHKHOVET_GROUP_REDUNDANT_DIRECTORY = 4,
-    ANHKHOVET_GROUP_PRIMARY_TABLE = 5,
-    ANHKHOVET_GROUP_REDUNDANT_TABLE = 6,
+    ANHKHOVET_GROUP_HEADER = 1, ANHKHOVET_GROUP_DESCRIPTOR = 2, ANHKHOVET_GROUP_DIRECTORY = 3,
+    ANHKHOVET_GROUP_REDUNDANT_DIRECTORY = 4, ANHKHOVET_GROUP_PRIMARY_TABLE = 5, ANHKHOVET_GROUP_REDUNDANT_TABLE = 6,
     ANHKHOVET_GROUP_FOOTER = 7, /* the header once more, near the end of a stream, with the directory's place */
     ANHKHOVET_GROUP_LAST_SECTOR = 8 /* the sector after the footer */
 };
 
 /* `good` of anhkhovet_mend: the side that stays. Any other number than 0 is the redundant one. */
 enum AnhkhovetSide { ANHKHOVET_SIDE_PRIMARY = 0, ANHKHOVET_SIDE_REDUNDANT = 1 };
-
 /* `access` of AnhkhovetExtent. */
 enum AnhkhovetAccess { ANHKHOVET_ACCESS_RW = 1, ANHKHOVET_ACCESS_RDONLY = 2, ANHKHOVET_ACCESS_NOACCESS = 3 };
 
@@ -144,14 +149,15 @@ typedef struct AnhkhovetVerdict { uint64_t number, place, capacity, grain_size; 
    meets an earlier one. */
 typedef struct AnhkhovetMarked { uint64_t number, place, capacity, grain_size, marked; } AnhkhovetMarked;
 
-/* What a header says: also the first sector of the descriptor inside the image and its sectors, both 0 where there is none,
-   and the dirty number, which is other than 0 where the disk was still open. */
+/* What a header says: also the descriptor's first sector and its sectors, which are not judged and may lie past the file (those
+   that anhkhovet_frame lists do not), and the dirty number, which is other than 0 where the disk was still open. */
 typedef struct AnhkhovetHead {
     uint64_t number, place, capacity, grain_size, descriptor, descriptor_sectors, dirty;
 } AnhkhovetHead;
 
-/* Where a sector comes from: the layer of a chain, base 0, or the extent of a disk of several files, also on a refusal; the
-   kind (AnhkhovetSource); the file's sector; of a packed grain its payload's bytes, and the sector's number in the grain. */
+/* Where a sector comes from: the layer of a chain, base 0, or the extent of a disk of several files, also on a refusal, but 0
+   on 20, 22, 24 and 30 to 36, which are of the whole; the kind (AnhkhovetSource); the sector of that layer's or extent's own
+   file; of a packed grain its payload's bytes, and the sector's number in the grain. */
 typedef struct AnhkhovetLocated { uint64_t number, layer, place, kind, sector, size, offset; } AnhkhovetLocated;
 
 /* How a lookup comes to its answer: whether an entry of 1 means zeros (else it is file sector 1), the grain, and the two
@@ -161,22 +167,16 @@ typedef struct AnhkhovetSteps {
     uint64_t number, place, one_is_zero, grain, directory_at, directory_entry, table_at, table_entry;
     uint64_t kind, sector, size, offset;
 } AnhkhovetSteps;
-
 /* A part of the image, in bytes: its first, and how many. Both are 0 where there is none. */
 typedef struct AnhkhovetPart { uint64_t at, length; } AnhkhovetPart;
-
 /* How many areas were listed. */
 typedef struct AnhkhovetFramed { uint64_t number, place, count; } AnhkhovetFramed;
-
 /* Grains of all accepted images, kind by kind. */
 typedef struct AnhkhovetSurveyed { uint64_t number, place, stored, zero, absent, packed; } AnhkhovetSurveyed;
-
 /* How many entries differed. */
 typedef struct AnhkhovetMended { uint64_t number, place, count; } AnhkhovetMended;
-
 /* The bytes of what was written. */
 typedef struct AnhkhovetWritten { uint64_t number, place, length; } AnhkhovetWritten;
-
 /* What is kept of a stream that broke off, its sectors and the whole grains among them, and the bytes of the tail. */
 typedef struct AnhkhovetClosed { uint64_t number, place, sectors, grains, length; } AnhkhovetClosed;
 
@@ -189,15 +189,14 @@ typedef struct AnhkhovetDescribed {
 /* One extent: its first virtual sector, its sectors, access (AnhkhovetAccess), kind (AnhkhovetExtentKind), where its name
    stands in the text, without its quotes, and the name's bytes; the offset in the file, in sectors, or 0. */
 typedef struct AnhkhovetExtent { uint64_t first, sectors, access, kind, name_at, name_length, offset; } AnhkhovetExtent;
-
 /* The number, in the list, of an extent. */
 typedef struct AnhkhovetFound { uint64_t number, place, extent; } AnhkhovetFound;
 
 /* The full check of one image, every layout rule over every sector. Refusals: 1 to 12 and 43. */
 AnhkhovetVerdict anhkhovet_check(const uint8_t *image, size_t image_length);
 
-/* The same with its marks in a list of ANHKHOVET_MARK_WORDS(image_length) words at least. What the list held does not count;
-   after acceptance and after 12 the words that are needed are 0. Refusals: 1 to 11 and 43, 21, 12. */
+/* The same with its marks in a list of ANHKHOVET_MARK_WORDS(image_length) words at least, whatever it holds. After acceptance
+   and after 12 these words are 0; any past them, and all after another refusal, are left. Refusals: 1 to 11 and 43, 21, 12. */
 AnhkhovetMarked anhkhovet_check_in(const uint8_t *image, size_t image_length, uint64_t *list, size_t list_length);
 
 /* Whether an image meets the lab profile: clean, uncompressed, grains of 128 sectors and a capacity that is a multiple of
@@ -220,12 +219,12 @@ AnhkhovetSteps anhkhovet_steps(const uint8_t *image, size_t image_length, uint64
 AnhkhovetLocated anhkhovet_chain(
     const uint8_t *layers, size_t layers_length, const uint64_t *lengths, size_t lengths_length, uint64_t sector);
 
-/* The bytes behind a sector, as a part of the image: 512 of a stored sector, the payload of a packed grain, none where it is
-   absent, zero or refused, which anhkhovet_lookup tells apart. */
+/* The bytes behind a sector, as a part of the image: 512 of a stored sector, the payload of a packed grain, which may be 512
+   too, none where it is absent, zero or refused. anhkhovet_lookup tells all five apart. */
 AnhkhovetPart anhkhovet_read(const uint8_t *image, size_t image_length, uint64_t sector);
 
 /* Lists the areas of an image but its grains over the start of `list`, ANHKHOVET_AREA_WORDS each: group (AnhkhovetGroup),
-   first sector, sectors. Refusals: 1 to 8 and 43, 21. */
+   first sector, sectors. ANHKHOVET_FRAME_WORDS are enough. They may share sectors. Refusals: 1 to 8 and 43, 21. */
 AnhkhovetFramed anhkhovet_frame(const uint8_t *image, size_t image_length, uint64_t *list, size_t list_length);
 
 /* Checks 1 to 1,024 images, end to end in `images` with their bytes in `lengths`, and counts their grains. Over the start of
@@ -235,16 +234,17 @@ AnhkhovetSurveyed anhkhovet_survey(
     const uint8_t *images, size_t images_length, const uint64_t *lengths, size_t lengths_length,
     uint64_t *rows, size_t rows_length, uint64_t *tally, size_t tally_length);
 
-/* Overwrites the entries in use of one directory's tables with those of the good side's, in the lent image, if the image so
+/* Overwrites the entries in use of the other side's tables with those of the good side's, in the lent image, if the image so
    changed is accepted. Over the start of `changes` go ANHKHOVET_CHANGE_WORDS for each entry that differed: grain, old entry,
-   new entry. An image has at most as many as grains. Refusals: 1 to 8 and 43, 40, 21. */
+   new entry. As many for each grain of the disk are enough. Refusals: 1 to 8 and 43, 40, 21. */
 AnhkhovetMended anhkhovet_mend(uint8_t *image, size_t image_length, uint64_t good, uint64_t *changes, size_t changes_length);
 
-/* Writes the normal form of an image over the start of `out`. Refusals: 1 to 12 and 43, 23, 27, 21. */
+/* Writes the normal form of an image over the start of `out`: header, directory, every table, then the stored grains in their
+   order, and no descriptor. ANHKHOVET_OUT_BYTES are enough, here and below. Refusals: 1 to 12 and 43, 23, 27, 21. */
 AnhkhovetWritten anhkhovet_normal(const uint8_t *image, size_t image_length, uint8_t *out, size_t out_length);
 
-/* Writes one image that reads as `upper` on top of `lower` does, in normal form, over the start of `out`. Refusals: 1 to 12
-   and 43 of `lower`, then of `upper`; 23, 22, 27, 21. */
+/* Writes one image that reads as `upper` on top of `lower` does, in normal form, over the start of `out`. The answer does not
+   say which of them is refused; anhkhovet_normal does. Refusals: 1 to 12 and 43 of `lower`, then of `upper`; 23, 22, 27, 21. */
 AnhkhovetWritten anhkhovet_collapse(
     const uint8_t *lower, size_t lower_length, const uint8_t *upper, size_t upper_length, uint8_t *out, size_t out_length);
 
@@ -254,8 +254,8 @@ AnhkhovetWritten anhkhovet_to_kdmv(const uint8_t *image, size_t image_length, ui
 /* Writes a KDMV image as a COWD one, in normal form, over the start of `out`. Refusals: 1 to 12, 23, 27, 44, 21. */
 AnhkhovetWritten anhkhovet_to_cowd(const uint8_t *image, size_t image_length, uint8_t *out, size_t out_length);
 
-/* Writes the tail that closes a stream that broke off over the start of `out`: the first `sectors` of the image, and the tail
-   behind them, are an accepted image. Refusals: 1 to 6 and 43, 41, 21. */
+/* Writes the tail that closes a stream that broke off over the start of `out`: the first `sectors` sectors of the image, and
+   the tail behind them, are an accepted image. 5 * image_length + 2 MiB are enough. Refusals: 1 to 6 and 43, 41, 21. */
 AnhkhovetClosed anhkhovet_close(const uint8_t *image, size_t image_length, uint8_t *out, size_t out_length);
 
 /* Reads a descriptor and stores its extents over the start of `extents`; ANHKHOVET_MOST_EXTENTS are enough. Refusals: 36, 31,
@@ -267,8 +267,9 @@ AnhkhovetDescribed anhkhovet_descriptor(
 AnhkhovetFound anhkhovet_find(const AnhkhovetExtent *extents, size_t extents_length, uint64_t sector);
 
 /* Where virtual sector `sector` of a disk of several files comes from: its descriptor's text, the files of its extents end to
-   end in the order of their lines, and the bytes of each, 0 for ZERO. The answer's `layer` is the extent. Refusals: 30 to 36,
-   24, 20; of the sector's own extent 39, 43, 45, 1 to 12, 38. */
+   end in the order of their lines, and the bytes of each, 0 for ZERO. The sector's own file alone is judged, and checked whole
+   in each call; any other may be left out, with 0 bytes. Refusals: 36, 31, 30, 32 to 35, 24, 20; of the sector's own extent 39,
+   43, 45, 1 to 12, 38. */
 AnhkhovetLocated anhkhovet_split(
     const uint8_t *text, size_t text_length, const uint8_t *files, size_t files_length,
     const uint64_t *lengths, size_t lengths_length, uint64_t sector);
@@ -295,5 +296,4 @@ typedef char AnhkhovetCountSize[sizeof(size_t) == 8 ? 1 : -1];
 #ifdef __cplusplus
 }
 #endif
-
 #endif

@@ -47,8 +47,8 @@ def enums():
 
 def constants():
     """The other numbers, each group with what is said of it."""
-    for words, group in re.findall(COMMENT + r"((?:#define .*\n)+)", HEADER, re.S):
-        names = re.findall(r"#define (ANHKHOVET_\w+(?:\(\w+\))?) (.*)", group)
+    for words, group in re.findall(COMMENT + r"((?:#define [^\n]*\n)+)", HEADER, re.S):
+        names = re.findall(r"#define (ANHKHOVET_\w+(?:\([\w, ]+\))?) (.*)", group)
         yield shown(words), [f"{name} = {shown(value)}" for name, value in names if not name.startswith("ANHKHOVET_WORDS")]
 
 

@@ -1,10 +1,11 @@
 """The proved library of sparse disk images (VMDK), for Python.
 
 `Image` is one image, `Chain` several on top of each other, `Disk` a descriptor with its files; `survey` counts the grains of
-many images, `descriptor` reads a descriptor's text. What breaks a rule raises `Refused`, with document 01's number, its place
+many images, `descriptor` reads a descriptor's text. What breaks a rule raises `Refused`, with its number, its place
 and a sentence; a file that cannot be read, or changed while it was read (`Changed`), raises an `OSError`.
 
-No byte of an image is judged here: each answer is the library's. docs/PYTHON.md has examples."""
+No byte of an image is judged here: each answer is the library's. docs/PYTHON.md, with the package below
+/usr/share/anhkhovet, has examples; `help(anhkhovet.Image)` is where to begin."""
 from ._face import STACK
 from ._files import Changed
 from ._told import SECTOR

@@ -190,14 +190,16 @@ def taken(call: str) -> list[type]:
 
 def _opened() -> ctypes.CDLL:
     named = os.environ.get(VARIABLE)
-    beside = Path(__file__).with_name(LIBRARY)
-    place = named or (str(beside) if beside.exists() else LIBRARY)
+    module = Path(__file__).resolve()
+    # Beside the module, and where the package's tarball has it, below one lib with the module.
+    near = [module.with_name(LIBRARY), *(folder / LIBRARY for folder in module.parents[3:4])]
+    place = named or next((str(path) for path in near if path.exists()), LIBRARY)
     try:
         return ctypes.CDLL(place)
     except OSError as error:
         raise ImportError(
             f"the proved library cannot be loaded: {error}; it is looked for where {VARIABLE} says, "
-            f"then as {beside}, then as {LIBRARY} by the system's loader"
+            f"then as {' and '.join(map(str, near))}, then as {LIBRARY} by the system's loader"
         ) from error
 
 

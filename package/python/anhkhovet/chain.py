@@ -10,7 +10,7 @@ from . import _calls as calls
 from ._files import PlainFile
 from ._lent import BUFFERS, Memory, of_buffer, own, words
 from ._told import judged, number_of, rows_of, source_of, words_of
-from .answers import Counts, Located, Survey, Tallied
+from .answers import Counts, Geometry, Located, Survey, Tallied
 from .image import Given, Image, collapse
 from .refusals import Refused
 
@@ -80,6 +80,17 @@ class Chain:
 
     def __len__(self) -> int:
         return len(self.layers)
+
+    def check(self) -> Geometry:
+        """Judges every layer by the full check, base first, then that they are one chain. Refusals: those of `Image.check` with
+        the layer, 24, 22."""
+        for number, layer in enumerate(self.layers):
+            try:
+                layer.check()
+            except Refused as refused:
+                raise Refused(refused.number, refused.place, layer=number) from None
+        self.lookup(0)
+        return self.layers[0].check()
 
     def lookup(self, sector: int) -> Located:
         """Where a virtual sector comes from: the topmost layer in which it is not absent, else layer 0 and absent.

@@ -36,7 +36,7 @@ class Counted(Enum):
 
 
 class Refused(Exception):
-    """A refusal by document 01's rules. Shown, it is its number, its place where that counts something, and a sentence."""
+    """A refusal by the rules of the format. Shown, it is its number, its place where that counts something, and a sentence."""
 
     def __init__(
         self,
@@ -49,7 +49,7 @@ class Refused(Exception):
     ) -> None:
         super().__init__(number, place, layer, extent, marked, way)
         self.number = number
-        """Document 01's number: docs/REFUSALS.md has for each its rule, its usual cause and what to try."""
+        """Which rule is broken: docs/REFUSALS.md has for each its rule, its usual cause and what to try."""
         self.place = place
         """The part, the grain, the byte or the line at fault, as `counted` says, else 0."""
         self.layer = layer

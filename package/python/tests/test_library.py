@@ -37,6 +37,13 @@ def test_then_beside_the_module(tmp_path: Path) -> None:
     assert asked(folder).stdout == f"{folder}/anhkhovet/libanhkhovet.so.1\n"
 
 
+def test_then_where_the_tarball_has_it(tmp_path: Path) -> None:
+    modules = tmp_path / "lib/python3/dist-packages"
+    modules.mkdir(parents=True)
+    shutil.copy(LIBRARY, tmp_path / "lib/libanhkhovet.so.1")
+    assert asked(copied(modules)).stdout == f"{tmp_path}/lib/libanhkhovet.so.1\n"
+
+
 def test_then_the_system_s_loader(tmp_path: Path) -> None:
     folder = copied(tmp_path)
     shutil.copy(LIBRARY, folder / "libanhkhovet.so.1")

@@ -8,11 +8,13 @@ from pathlib import Path
 
 import pytest
 from sources import PYTHON, ROOT, SAMPLES
+from test_samples import opened, sector_bytes
 
 import anhkhovet
 from anhkhovet._face import CALLS
 
 PAGE = (ROOT / "docs/PYTHON.md").read_text()
+GRADER = ROOT / "package/example/grade.py"
 BASE = SAMPLES / "tool-base.vmdk"
 
 
@@ -63,24 +65,50 @@ def submissions(folder: Path) -> None:
     (folder / "dee.vmdk").write_bytes(b"my work " * 100)
 
 
+def graded(folder: Path, wanted: str) -> str:
+    (folder / "list").write_text(wanted)
+    command = [*PYTHON, str(GRADER), "list", "submissions"]
+    said = subprocess.run(command, cwd=folder, capture_output=True, text=True)
+    assert (said.stderr, said.returncode) == ("", 0)
+    return said.stdout
+
+
 def test_the_grader(tmp_path: Path) -> None:
     submissions(tmp_path / "submissions")
-    (tmp_path / "list").write_text(listed(BASE))
-    (tmp_path / "grade.py").write_text(grader())
-    said = subprocess.run([*PYTHON, "grade.py", "list", "submissions"], cwd=tmp_path, capture_output=True, text=True)
-    assert (said.stdout, said.stderr, said.returncode) == (shown(), "", 0)
+    assert graded(tmp_path, listed(BASE)) == shown()
 
 
-def test_the_grader_takes_packed_images(tmp_path: Path) -> None:
+@pytest.mark.parametrize("name", ["tool-packed", "stream-optimized-data", "vmdkstream"])
+def test_the_grader_unpacks(tmp_path: Path, name: str) -> None:
+    (tmp_path / "submissions").mkdir()
+    shutil.copy(SAMPLES / f"{name}.vmdk", tmp_path / "submissions")
+    disk = opened(name)
+    sectors = range(disk.check().capacity)
+    wanted = [f"{sector} {hashlib.sha256(sector_bytes(disk, sector)).hexdigest()}\n" for sector in sectors]
+    said = f"{name}.vmdk: {len(sectors)} of {len(sectors)} sectors agree\n"
+    assert graded(tmp_path, "".join(wanted)) == said
+
+
+def test_the_grader_takes_lists_of_packed_images(tmp_path: Path) -> None:
     (tmp_path / "submissions").mkdir()
     shutil.copy(SAMPLES / "tool-packed.vmdk", tmp_path / "submissions")
     printed = (ROOT / "docs/TOOL.md").read_text().split("$ anhkhovet digest --grain samples/tool-packed.vmdk | head -n 2\n")[1]
     line = printed.splitlines()[1].strip()
     assert line.endswith(" packed")
-    (tmp_path / "list").write_text(line + "\n")
-    (tmp_path / "grade.py").write_text(grader())
-    said = subprocess.run([*PYTHON, "grade.py", "list", "submissions"], cwd=tmp_path, capture_output=True, text=True)
-    assert said.stdout == "tool-packed.vmdk: 1 of 1 sectors agree\n", said.stderr
+    assert graded(tmp_path, line + "\n") == "tool-packed.vmdk: 1 of 2048 sectors agree\n"
+
+
+def test_a_payload_that_is_none_is_told(tmp_path: Path) -> None:
+    (tmp_path / "submissions").mkdir()
+    image = bytearray((SAMPLES / "tool-packed.vmdk").read_bytes())
+    part = anhkhovet.Image(image).read_part(128)
+    image[part.at : part.at + part.length] = bytes(part.length)
+    (tmp_path / "submissions/broken.vmdk").write_bytes(image)
+    assert graded(tmp_path, f"128 {'0' * 64}\n").startswith("broken.vmdk: Error -3 while decompressing data")
+
+
+def test_the_page_shows_the_grader() -> None:
+    assert grader().strip() == GRADER.read_text().strip()
 
 
 def test_the_grader_has_twenty_lines() -> None:

@@ -125,6 +125,15 @@ def test_which_layer_of_a_chain_is_at_fault() -> None:
         with pytest.raises(Refused) as refused:
             Chain(layers).collapse()
         assert (refused.value.number, refused.value.layer) == (number, layer)
+        if number != 23:
+            with pytest.raises(Refused) as refused:
+                Chain(layers).check()
+            assert (refused.value.number, refused.value.layer) == (number, layer)
+    assert Chain([base, middle]).check() == Image(base).check()
+    for layers in ([], [base] * 17):
+        with pytest.raises(Refused) as refused:
+            Chain(layers).check()
+        assert (refused.value.number, refused.value.layer) == (24, None)
 
 
 def test_a_torn_table() -> None:

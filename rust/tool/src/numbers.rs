@@ -9,7 +9,7 @@ pub fn number(word: &str) -> Result<u64, String> {
         Some(digits) => u64::from_str_radix(digits, 16),
         None => word.parse(),
     };
-    number.map_err(|error| error.to_string())
+    number.map_err(|_| "this is no number, as 130 or 0x82 is, that 64 bits hold".to_string())
 }
 
 /// A number of at least one.

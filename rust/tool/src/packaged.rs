@@ -30,8 +30,30 @@ fn completions_are_those_of_today() {
     for (shell, path) in shells {
         let mut text = Vec::new();
         generate(shell, &mut command(), "anhkhovet", &mut text);
-        held(path, &String::from_utf8(text).expect("words"));
+        held(path, &typed(&String::from_utf8(text).expect("words")));
     }
+}
+
+/// What can be typed alone: of commands that take files clap's library has bash offer `<FILE>...`, and all options where nothing
+/// is typed yet. Without these bash offers the files themselves, and the options behind a `-`.
+fn typed(text: &str) -> String {
+    let offer = "            COMPREPLY=( $(compgen -W \"${opts}\" -- \"${cur}\") )";
+    let mut takes_files = false;
+    let mut typed = String::new();
+    for line in text.lines() {
+        match line.split_once(" <").or_else(|| line.split_once(" [N]")) {
+            Some((options, _)) if line.starts_with("            opts=") => {
+                takes_files = true;
+                writeln!(typed, "{options}\"").expect("written");
+            }
+            _ if takes_files && line == offer => takes_files = false,
+            _ if takes_files => {
+                writeln!(typed, "{}", line.replace(" || ${COMP_CWORD} -eq 2", "")).expect("written");
+            }
+            _ => writeln!(typed, "{line}").expect("written"),
+        }
+    }
+    typed
 }
 
 #[test]
@@ -64,7 +86,8 @@ fn page(mut command: Command) -> String {
     page += ".SH OPTIONS\n";
     page += &command.get_arguments().map(argument).collect::<String>();
     page += &statuses();
-    page += ".SH SEE ALSO\n.BR anhkhovet (3),\nand for an example of each command docs/TOOL.md below share/anhkhovet.\n";
+    page += ".SH SEE ALSO\n.BR anhkhovet (3),\n.BR nbdkit-anhkhovet-plugin (1),\nand below share/anhkhovet docs/COURSE.md, \
+             docs/TOOL.md with an example of each command, and docs/REFUSALS.md.\n";
     page
 }
 

@@ -62,7 +62,7 @@ pub const RULES: &[Rule] = &[
     },
     Rule {
         number: 37,
-        rule: "The small program vmdk_check takes at most 65,536 bytes on its standard input.",
+        rule: "The small program of the repository, vmdk_check, takes at most 65,536 bytes on its standard input.",
         place: NOWHERE,
         cause: "An image that is longer.",
         advice: "`anhkhovet check FILE` takes files of any length.",

@@ -15,7 +15,7 @@ where the place points, who gives it, what usually causes it and what to try. do
 
 `anhkhovet refusals` lists the numbers, and `anhkhovet refusals 9` says what stands here of one: this page is written from what
 that command answers, by a test (`rust/tool/tests/refusals.rs`, with ANHKHOVET_WRITE set), which also holds it to the library's
-definitions. Calls are named without the `anhkhovet_` of the C face; `vmdk_check` is the small program. Numbers that are missing
+definitions. Calls are named without the `anhkhovet_` of the C face; `vmdk_check` is a program of the repository. Numbers that are missing
 here are given by nothing.
 
 Of a chain the layer that was met is named beside the number, and of a disk of several files the extent.
