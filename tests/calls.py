@@ -41,8 +41,8 @@ def lacks(call, wrong):
         "two must-fail edits with a line '# call:'": len(wrong) >= 2,
         f"`{theorem}-determined` in crates/exports/proofs/Determined*.antt":
             f"{theorem}-determined" in names("crates/exports/proofs/Determined*.antt"),
-        f"`{theorem}-varies` in crates/laws/proofs/NotConstant*.antt":
-            f"{theorem}-varies" in names("crates/laws/proofs/NotConstant*.antt"),
+        f"`{theorem}-varies` in crates/examples/proofs/NotConstant*.antt":
+            f"{theorem}-varies" in names("crates/examples/proofs/NotConstant*.antt"),
         "a row in docs/PROMISES.md, Public calls": f"| `anhkhovet_{call}` |" in text("docs/PROMISES.md"),
         f"a line '{call} ..' in crates/cases/stdout": re.search(rf"(?m)^{call} ", text("crates/cases/stdout")),
         f"`anhkhovet_{call}` declared in rust/anhkhovet": f"pub fn anhkhovet_{call}(" in text(binding),
@@ -71,7 +71,7 @@ def strangers(wrong):
     cited = {
         "a must-fail edit": wrong,
         "crates/exports/proofs/Determined*.antt": theorems("crates/exports/proofs/Determined*.antt", "determined"),
-        "crates/laws/proofs/NotConstant*.antt": theorems("crates/laws/proofs/NotConstant*.antt", "varies"),
+        "crates/examples/proofs/NotConstant*.antt": theorems("crates/examples/proofs/NotConstant*.antt", "varies"),
         "docs": re.findall(r"`anhkhovet_(\w+)`", text("docs/PROMISES.md", "docs/TOOL.md", "docs/EDITS.md")),
         "rust/anhkhovet": re.findall(r"pub fn anhkhovet_(\w+)\(", text("rust/anhkhovet/src/**/*.rs")),
     }

@@ -12,9 +12,12 @@ use Rattle.format.specs.declared.Header.{Header}
 use Rattle.format.specs.declared.Entry.{Entry}
 use Rattle.format.specs.declared.Entry.the-variants.{Absent, Zero, Sector}
 
--- entry k of the directory or table that starts at sector t: entries are u32
+-- entry k of the directory or table that starts at sector t: its first byte, and its number; entries are u32
+abbrev pub entryByte : ℕ → ℕ → ℕ
+entryByte t k = 512 * t + 4 * k
+
 abbrev pub entryAt : List ℕ → ℕ → ℕ → ℕ
-entryAt s t k = leAt s (512 * t + 4 * k) 4
+entryAt s t k = leAt s (entryByte t k) 4
 
 -- the entry table: 0 is absent; 1 is zero, if `oneIsZero`; else the entry is a sector
 unfoldable pub meaning : Bool → ℕ → Entry

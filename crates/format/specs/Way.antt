@@ -1,13 +1,13 @@
 -- How a lookup comes to its answer, step by step (issue 29): what 1 means and the grain, then the directory's entry, then the
 -- table's. A step is told where the lookup reaches it; what is not reached is 0.
-use Prim.Native.Nat.{ℕ, _+_, _*_, _/_, _%_}
+use Prim.Native.Nat.{ℕ, _/_, _%_}
 use mathlib.Core.List.{List}
 use mathlib.Core.Bool.{false}
 use lib.Dec.{leb}
 use Rattle.base.specs.Pick.{pick}
 use Rattle.format.specs.Geometry.{fileSectors}
 use Rattle.format.specs.Header.{judge}
-use Rattle.format.specs.Entries.{entryAt, meaningAt}
+use Rattle.format.specs.Entries.{entryByte, entryAt, meaningAt}
 use Rattle.format.specs.Areas.{area, endsPast}
 use Rattle.format.specs.Check.{directoryMisplaced}
 use Rattle.format.specs.Source.{sectorLookup}
@@ -19,10 +19,6 @@ use Rattle.format.specs.declared.HeaderAnswer.{HeaderAnswer}
 use Rattle.format.specs.declared.HeaderAnswer.the-variants.{Known, Refused}
 use Rattle.format.specs.declared.steps.Way.{Way}
 use Rattle.format.specs.declared.steps.Steps.{Steps}
-
--- the first byte of entry k of the directory or table at sector t
-abbrev pub entryByte : ℕ → ℕ → ℕ
-entryByte t k = 512 * t + 4 * k
 
 -- ---- how far the lookup comes
 -- 1 to 7, 43 and 20: nothing is told

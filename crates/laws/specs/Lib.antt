@@ -7,11 +7,8 @@ pub mod Unused
 pub mod StillOpen
 pub mod Mended
 pub mod Coverage
-pub mod Images
 pub mod FirstMeeting
 pub mod Misplaced
-pub mod Examples
-pub mod ExampleLayers
 pub mod MovedImages
 pub mod ProfileImages
 pub mod Closed

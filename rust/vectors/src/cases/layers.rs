@@ -1,4 +1,4 @@
-//! The example of crates/laws/proofs/ExampleLayers.antt, byte by byte: two layers, and what they collapse to.
+//! The example of crates/examples/proofs/ExampleLayers.antt, byte by byte: two layers, and what they collapse to.
 //! The results are written out, so that nobody's collapse is believed.
 
 use super::{Case, COLLAPSE};

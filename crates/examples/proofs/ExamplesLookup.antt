@@ -21,9 +21,9 @@ use Rattle.format.specs.declared.HeaderAnswer.the-variants.{Known}
 use Rattle.format.specs.declared.LookupAnswer.{LookupAnswer}
 use Rattle.format.specs.declared.LookupAnswer.the-variants.{Found, Refused}
 use Rattle.format.specs.declared.Part.{Part}
-use Rattle.laws.specs.Examples.{Example, example, Hold}
-use Rattle.laws.specs.Images.{small, packed, sizedHeader, plainHeader, streamHeader}
-use Rattle.laws.proofs.ExamplesCheck.{packed-known}
+use Rattle.examples.specs.Examples.{Example, example, Hold}
+use Rattle.examples.specs.Images.{small, packed, sizedHeader, plainHeader, streamHeader}
+use Rattle.examples.proofs.ExamplesCheck.{packed-known}
 
 -- the lookup in an image whose header is known
 looked : (s : List ℕ) (h : Header) (x : ℕ) → judge s ≡ Known h → sectorLookup s x ≡ lookupIn s h x

@@ -21,8 +21,8 @@ use Rattle.format.specs.Entries.{meaning, inTable, entryOfGrain}
 use Rattle.format.specs.Grains.{Grain, stored, Map, clip, clipAt, grainFrom}
 use Rattle.format.specs.Collapse.{mapOf}
 use Rattle.format.proofs.Grains.{clip-length}
 use Rattle.laws.specs.Layers.{SameGrains, endToEnd}
-use Rattle.laws.specs.ExampleLayers.{filled, lower, upper, cut, listed, lowerGrains, upperGrains}
+use Rattle.examples.specs.ExampleLayers.{filled, lower, upper, cut, listed, lowerGrains, upperGrains}
 
 -- ---- a grain of one byte, where `kept` of its bytes stand below capacity
 module _ (c size g byte : ℕ) (s : List ℕ) (e : take (512 * size) s ≡ replicate (512 * size) byte) where

@@ -27,12 +27,12 @@ use Rattle.format.specs.declared.CheckAnswer.the-variants.{Accepted}
 use Rattle.format.specs.declared.LookupAnswer.the-variants.{Found}
 use Rattle.format.specs.declared.closing.CloseAnswer.{CloseAnswer}
 use Rattle.format.specs.declared.closing.CloseAnswer.the-variants.{Closed, Refused}
-use Rattle.laws.specs.Images.{joined, with, startSector, start, smallCowd, small, plainHeader, streamHeader, startHeader}
-use Rattle.laws.specs.Examples.{Example, example, Hold}
+use Rattle.examples.specs.Images.{joined, with, startSector, start, smallCowd, small, plainHeader, streamHeader, startHeader}
+use Rattle.examples.specs.Examples.{Example, example, Hold}
 use Rattle.laws.specs.Closed.{Closable, Among, first}
 use Rattle.laws.proofs.ClosedAccepted.{closed-accepted}
 use Rattle.laws.proofs.ClosedServed.{closed-packed}
 use Rattle.laws.proofs.ClosedAnswer.{closed-answer}
 
 -- a grain of one sector, with its first virtual sector and its size, and a marker of another kind
 abbrev grain : ℕ → ℕ → List ℕ

@@ -22,7 +22,7 @@ use Rattle.format.specs.Survey.{surveyedIfRoom, survey, afterSurvey}
 use Rattle.format.specs.declared.Refusal.the-variants.{TooLittleRoom, LayerLengths}
 use Rattle.format.specs.declared.SurveyAnswer.{SurveyAnswer}
 use Rattle.format.specs.declared.SurveyAnswer.the-variants.{Surveyed, Refused}
-use Rattle.laws.specs.Images.{small}
+use Rattle.examples.specs.Images.{small}
 
 -- ---- an image of two grains, the one stored and the other zero, then one of no bytes, which is refused 1
 abbrev images : List ℕ

@@ -30,8 +30,8 @@ use Rattle.format.specs.declared.MisplacedPart.the-variants.{PrimaryTable, Redu
 use Rattle.format.specs.declared.Refusal.the-variants.{Misplaced, GrainPast, Marker, CopiesDiffer, SharedSector}
 use Rattle.format.specs.declared.HeaderAnswer.the-variants.{Known}
 use Rattle.format.specs.declared.CheckAnswer.the-variants.{Accepted, Refused}
-use Rattle.laws.specs.Examples.{Example, example, Hold}
-use Rattle.laws.specs.Images.{with, kdmvSector, packed, doubled, plainHeader, streamHeader}
+use Rattle.examples.specs.Examples.{Example, example, Hold}
+use Rattle.examples.specs.Images.{with, kdmvSector, packed, doubled, plainHeader, streamHeader}
 use Rattle.format.proofs.HeaderFooter.{kept-footer}
 
 -- the check of an image whose header is known

@@ -21,14 +21,14 @@ use Rattle.format.specs.declared.Refusal.the-variants.{TooLittleRoom}
 use Rattle.format.specs.declared.CollapseAnswer.the-variants.{Written, Refused}
 use Rattle.format.proofs.Picked.{pick-then, pick-else}
 use Rattle.format.proofs.Grains.{onto-self}
 use Rattle.laws.proofs.CollapsedMaps.{layout-same}
 use Rattle.laws.proofs.CollapsedImages.{collapsed-self, collapsed-is}
 use Rattle.laws.proofs.CollapsedAnswer.{layers-collapse}
-use Rattle.laws.proofs.ExampleLayers.{layers}
-use Rattle.laws.proofs.ExampleLayersMaps.{lower-map, upper-map}
-use Rattle.laws.specs.ExampleLayers.{filled, lower, upper, cut, listed, lowerGrains, upperGrains, headerSector}
-use Rattle.laws.specs.ExampleLayers.{directorySector, collapsedTable, normalTable, gapSectors, image, collapsedGrains}
-use Rattle.laws.specs.ExampleLayers.{normalGrains}
+use Rattle.examples.proofs.ExampleLayers.{layers}
+use Rattle.examples.proofs.ExampleLayersMaps.{lower-map, upper-map}
+use Rattle.examples.specs.ExampleLayers.{filled, lower, upper, cut, listed, lowerGrains, upperGrains, headerSector}
+use Rattle.examples.specs.ExampleLayers.{directorySector, collapsedTable, normalTable, gapSectors, image, collapsedGrains}
+use Rattle.examples.specs.ExampleLayers.{normalGrains}
 
 -- ---- they are what is written
 header-is : (sectors : ℕ) → headerBytes Kdmv 69 8 sectors ≡ headerSector

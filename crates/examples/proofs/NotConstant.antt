@@ -42,7 +42,7 @@ use Rattle.format.specs.declared.Framed.{Framed}
 use Rattle.format.specs.declared.Mended.{Mended}
 use Rattle.format.specs.declared.Surveyed.{Surveyed}
 use Rattle.format.specs.Survey.{entryKind, countOf, rowFrom, addRow, totalsBelow, surveyedIfRoom, survey}
-use Rattle.laws.specs.Images.{kdmvSector, small, differing}
+use Rattle.examples.specs.Images.{kdmvSector, small, differing}
 use Rattle.disk.specs.Split.{inZero, byType, inExtent, atExtent, splitFrom, split, splitNumbers}
 use Rattle.descriptor.specs.declared.Described.{Described}
 use Rattle.descriptor.specs.declared.Extent.{Extent}

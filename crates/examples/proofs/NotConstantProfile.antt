@@ -13,13 +13,13 @@ use Rattle.format.specs.Profile.{profileIfAccepted, profile}
 use Rattle.format.specs.Answers.{verdict}
 use Rattle.format.specs.declared.CheckAnswer.{CheckAnswer}
 use Rattle.format.specs.declared.Verdict.{Verdict}
 use Rattle.laws.specs.Layers.{Layer}
 use Rattle.laws.proofs.LayoutNumbers.{Sizes}
 use Rattle.laws.proofs.CollapsedLayers.{capacity-is}
 use Rattle.laws.proofs.CollapsedImages.{normal-accepted, blank-accepted}
 use Rattle.laws.proofs.ProfileMet.{meets-profile}
 use Rattle.laws.proofs.ProfileImages.{normal-meets}
-use Rattle.laws.proofs.NotConstant.{differ}
+use Rattle.examples.proofs.NotConstant.{differ}
 
 one-grain : Sizes 128 128
 one-grain = record {

@@ -18,7 +18,7 @@ use Rattle.format.specs.Accepted.{FooterRules}
 use Rattle.format.specs.declared.Header.{Header}
 use Rattle.format.specs.declared.Refusal.the-variants.{Footer}
 use Rattle.format.specs.declared.HeaderAnswer.the-variants.{Known, Refused}
-use Rattle.laws.specs.Images.{with, stream, streamHeader}
+use Rattle.examples.specs.Images.{with, stream, streamHeader}
 use Rattle.format.proofs.HeaderFooter.{footer-kept, kept-footer}
 
 -- four sectors: sector 0, one that nothing judges, the footer and the last one

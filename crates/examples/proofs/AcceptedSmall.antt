@@ -20,8 +20,8 @@ use Rattle.format.specs.Check.{checkLayout, checkFrom, checkOf, check}
 use Rattle.format.specs.Accepted.{AcceptedKdmv, Accepted}
 use Rattle.format.specs.declared.Taken.the-variants.{Either}
 use Rattle.format.specs.declared.CheckAnswer.the-variants.{Accepted as accepted}
-use Rattle.laws.specs.Images.{cowdSectors, small}
+use Rattle.examples.specs.Images.{cowdSectors, small}
 use Rattle.laws.proofs.AcceptedImage.{accepted-sound, either-sound}
 
 -- capacity 16, grain size 8, grain 0 stored at sector 8
 kdmv-check : check (small 8 0 0 10) ≡ accepted 16 8

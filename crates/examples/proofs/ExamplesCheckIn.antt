@@ -14,7 +14,7 @@ use Rattle.format.specs.Areas.{Area, area, ifThere, named, redundantTables, are
 use Rattle.format.specs.CheckIn.{sectorsOf, beforeMeeting, markedSectors, cameToMarking}
 use Rattle.format.specs.declared.Refusal.the-variants.{TooShort, GrainPast, CopiesDiffer, SharedSector, TooLittleRoom}
 use Rattle.format.specs.declared.CheckAnswer.the-variants.{Accepted, Refused}
-use Rattle.laws.specs.Images.{packed, doubled, plainHeader, streamHeader}
+use Rattle.examples.specs.Images.{packed, doubled, plainHeader, streamHeader}
 
 -- ---- lists of areas: all that come before the first which meets an earlier one, and not that one
 pub numbers :

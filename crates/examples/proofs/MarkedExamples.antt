@@ -27,8 +27,8 @@ use Rattle.format.specs.declared.Header.{Header}
 use Rattle.format.specs.declared.CheckAnswer.{CheckAnswer}
 use Rattle.format.specs.declared.LookupAnswer.{LookupAnswer}
 use Rattle.format.specs.declared.CollapseAnswer.{CollapseAnswer}
-use Rattle.laws.specs.Images.{kdmvSector, cowdSectors, sample, small}
+use Rattle.examples.specs.Images.{kdmvSector, cowdSectors, sample, small}
 use Rattle.laws.specs.Layers.{Every, none, more}
 
 -- an example: the numbers that the definitions give, and those of document 01
 pub record Example : Type 0 where

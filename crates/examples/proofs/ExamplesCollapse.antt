@@ -22,8 +22,8 @@ use Rattle.format.specs.declared.Refusal.the-variants.{KindGone}
 use Rattle.format.specs.declared.CheckAnswer.the-variants.{Accepted}
 use Rattle.format.specs.declared.CollapseAnswer.{CollapseAnswer}
 use Rattle.format.specs.declared.CollapseAnswer.the-variants.{Written, Refused}
-use Rattle.laws.specs.Examples.{Example, example, Hold}
-use Rattle.laws.specs.Images.{joined, cowdSectors, sizedHeader, openHeader, streamHeader}
+use Rattle.examples.specs.Examples.{Example, example, Hold}
+use Rattle.examples.specs.Images.{joined, cowdSectors, sizedHeader, openHeader, streamHeader}
 
 -- grain 0 is zero, grain 1 stored, all others absent
 abbrev grainsOf : List ℕ → Map

@@ -20,8 +20,8 @@ use Rattle.format.specs.declared.ChainAnswer.the-variants.{Found as foundIn, Re
 use Rattle.format.specs.declared.CollapseAnswer.{CollapseAnswer}
 use Rattle.format.specs.declared.CollapseAnswer.the-variants.{Written as writtenTo, Refused as notWritten}
 use Rattle.format.specs.declared.Located.{Located}
-use Rattle.laws.specs.Examples.{Example, example, Hold}
-use Rattle.laws.specs.Images.{plainHeader, openHeader}
+use Rattle.examples.specs.Examples.{Example, example, Hold}
+use Rattle.examples.specs.Images.{plainHeader, openHeader}
 
 -- ---- an answer's values in the order of the C face
 abbrev headed : HeaderAnswer → List ℕ

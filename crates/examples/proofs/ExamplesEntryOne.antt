@@ -29,7 +29,7 @@ use Rattle.format.specs.declared.Refusal.the-variants.{Flags, GrainPast, Copies
 use Rattle.format.specs.declared.CheckAnswer.the-variants.{Accepted, Refused}
 use Rattle.format.specs.declared.LookupAnswer.the-variants.{Found}
 use Rattle.format.specs.declared.CollapseAnswer.the-variants.{Written}
-use Rattle.laws.specs.Images.{joined, with, flaggedSector, cowdSectors}
+use Rattle.examples.specs.Images.{joined, with, flaggedSector, cowdSectors}
 
 -- ---- images, by version and flags
 -- the directory at sector 1, the table at 2 with a 1 for grain 0; `long` sectors from 6 on

@@ -19,8 +19,8 @@ use Rattle.format.specs.declared.Header.{Header}
 use Rattle.format.specs.declared.Refusal.the-variants.{TooShort, Magic, NotCollapsible, StillOpen, NotNormal, ProfileSizes}
 use Rattle.format.specs.declared.CheckAnswer.{CheckAnswer}
 use Rattle.format.specs.declared.CheckAnswer.the-variants.{Accepted, Refused}
-use Rattle.laws.specs.Examples.{Example, example, Hold}
-use Rattle.laws.specs.Images.{sizedHeader, openHeader, streamHeader}
+use Rattle.examples.specs.Examples.{Example, example, Hold}
+use Rattle.examples.specs.Images.{sizedHeader, openHeader, streamHeader}
 
 -- ---- answers
 abbrev answers : List (Example CheckAnswer)

@@ -17,7 +17,7 @@ use Rattle.format.specs.declared.MisplacedPart.the-variants.{Directory}
 use Rattle.format.specs.declared.Refusal.the-variants.{Flags, Misplaced, TooLittleRoom}
 use Rattle.format.specs.declared.FrameAnswer.{FrameAnswer}
 use Rattle.format.specs.declared.FrameAnswer.the-variants.{Listed, Refused}
-use Rattle.laws.specs.Images.{doubled, packed, plainHeader, streamHeader}
+use Rattle.examples.specs.Images.{doubled, packed, plainHeader, streamHeader}
 
 -- ---- the words
 -- header, descriptor, both directories, and a table of each

@@ -18,8 +18,8 @@ use Rattle.format.specs.Tail.{hasGrains}
 use Rattle.format.specs.Close.{closeFrom, closeJudged, close}
 use Rattle.format.specs.Answers.{closedNumbers}
 use Rattle.format.specs.declared.closing.Closed.{Closed}
-use Rattle.laws.specs.Images.{start}
-use Rattle.laws.proofs.NotConstant.{differ}
+use Rattle.examples.specs.Images.{start}
+use Rattle.examples.proofs.NotConstant.{differ}
 
 pub close-varies : (r : Closed) → ((s : List ℕ) (room : ℕ) → r ≡ closedNumbers (close s room)) → ⊥
 unfolding pick powerUpTo leAt leBytes sameAt over zeros sumBelow directoryEntries directorySectors kdmvFields kdmvFault kdmvHeader unlessFault judgeKdmvStart judgeStart grainSectors ifWhole blockAt walkOn walk grainsEnd hasGrains closeFrom closeJudged

@@ -22,8 +22,8 @@ use Rattle.format.specs.declared.Refusal.the-variants.{LayerLengths}
 use Rattle.format.specs.declared.LookupAnswer.the-variants.{Found as foundIn, Refused as lookupRefused}
 use Rattle.format.specs.declared.ChainAnswer.{ChainAnswer}
 use Rattle.format.specs.declared.ChainAnswer.the-variants.{Found, Refused}
-use Rattle.laws.specs.Examples.{Example, example, Hold}
-use Rattle.laws.specs.Images.{joined, kdmvSector}
+use Rattle.examples.specs.Examples.{Example, example, Hold}
+use Rattle.examples.specs.Images.{joined, kdmvSector}
 
 -- capacity 8, grain size 8, a directory at sector 1 with one entry: 1,024 bytes
 abbrev layer : ℕ → List ℕ

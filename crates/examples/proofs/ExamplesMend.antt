@@ -20,7 +20,7 @@ use Rattle.format.specs.declared.Side.the-variants.{Primary, Redundant}
 use Rattle.format.specs.declared.MisplacedPart.the-variants.{Descriptor}
 use Rattle.format.specs.declared.Refusal.the-variants.{Misplaced, NotMendable, TooLittleRoom}
 use Rattle.format.specs.declared.MendAnswer.the-variants.{Mended, Refused}
-use Rattle.laws.specs.Images.{with, doubled, differing, small, plainHeader}
+use Rattle.examples.specs.Images.{with, doubled, differing, small, plainHeader}
 
 pub mended-examples :
     -- the copies are alike

@@ -21,8 +21,8 @@ use Rattle.format.specs.declared.Fault.the-variants.{None, Found}
 use Rattle.format.specs.declared.Refusal.the-variants.{TooShort, Magic, Version, Newline, Flags, Sizes, KindGone}
 use Rattle.format.specs.declared.HeaderAnswer.{HeaderAnswer}
 use Rattle.format.specs.declared.HeaderAnswer.the-variants.{Known, Refused}
-use Rattle.laws.specs.Examples.{Example, example, Hold}
-use Rattle.laws.specs.Images.{joined, with, kdmvSector, cowdSectors}
+use Rattle.examples.specs.Examples.{Example, example, Hold}
+use Rattle.examples.specs.Images.{joined, with, kdmvSector, cowdSectors}
 
 -- ---- 1 and 2, by the first bytes and the length
 abbrev kinds : List (Example HeaderAnswer)

@@ -34,8 +34,8 @@ use Rattle.disk.specs.Split.{split, splitNumbers}
 use Rattle.disk.specs.declared.SplitAnswer.{SplitAnswer}
 use Rattle.disk.specs.declared.SplitAnswer.the-variants.{Unread, Lengths, SectorPast, NoAccess, OtherFile, Image}
 use Rattle.disk.specs.declared.SplitAnswer.the-variants.{CapacityDiffers}
-use Rattle.laws.specs.Images.{small}
-use Rattle.laws.proofs.AcceptedSmall.{cowdSmall}
+use Rattle.examples.specs.Images.{small}
+use Rattle.examples.proofs.AcceptedSmall.{cowdSmall}
 
 -- ---- four extents of five sectors: two of a file of three, zeros, NOACCESS, one of a file of one
 abbrev text : List ℕ

@@ -22,8 +22,8 @@ use Rattle.format.specs.declared.Header.{Header}
 use Rattle.format.specs.declared.Refusal.the-variants.{TooShort, Magic, TooLittleRoom, NotCollapsible, StillOpen, NotMovable}
 use Rattle.format.specs.declared.CollapseAnswer.{CollapseAnswer}
 use Rattle.format.specs.declared.CollapseAnswer.the-variants.{Written, Refused}
-use Rattle.laws.specs.Examples.{Example, example, Hold}
-use Rattle.laws.specs.Images.{joined, small, sizedHeader, openHeader, streamHeader}
+use Rattle.examples.specs.Examples.{Example, example, Hold}
+use Rattle.examples.specs.Images.{joined, small, sizedHeader, openHeader, streamHeader}
 
 -- grain 1 is stored, all others absent
 abbrev one : Map

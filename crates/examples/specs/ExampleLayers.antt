@@ -6,8 +6,8 @@ use lib.ListN.{replicate, getD}
 use Rattle.base.specs.Numbers.{leBytes}
 use Rattle.base.specs.Bytes.{zeros}
 use Rattle.format.specs.Geometry.{grains}
-use Rattle.laws.specs.Images.{kdmvSector}
+use Rattle.examples.specs.Images.{kdmvSector}
 use Rattle.laws.specs.Layers.{endToEnd}
 use Rattle.format.specs.Grains.{Grain, absent, zeroed, stored, Map}
 use Rattle.format.specs.Collapse.{collapsed}
 

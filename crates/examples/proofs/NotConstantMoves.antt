@@ -25,8 +25,8 @@ use Rattle.format.specs.Collapse.{ifAccepted, writtenIfRoom}
 use Rattle.format.specs.Moves.{saysZero, moveFrom, toKdmv, toCowd}
 use Rattle.format.specs.Answers.{written}
 use Rattle.format.specs.declared.Written.{Written}
-use Rattle.laws.specs.Images.{small, smallCowd}
-use Rattle.laws.proofs.NotConstant.{differ}
+use Rattle.examples.specs.Images.{small, smallCowd}
+use Rattle.examples.proofs.NotConstant.{differ}
 
 -- eight sectors are written, for which there is room
 pub to-kdmv-varies : (r : Written) → ((s : List ℕ) (room : ℕ) → r ≡ written (toKdmv s room)) → ⊥

@@ -13,8 +13,8 @@ use Rattle.format.specs.Entries.{meaning, inTable, entryOfGrain, grainSectors, 
 use Rattle.format.specs.Areas.{ifThere, named, redundantTables, areas, runsPast, shares, sharesAny, meet}
 use Rattle.format.specs.Check.{misplaced, lowestFrom, copiesDiffer, unlessGrain, checkApart, checkCopies, checkGrains}
 use Rattle.format.specs.Check.{checkLayout, checkFrom}
 use Rattle.laws.specs.Layers.{Layer, endToEnd}
-use Rattle.laws.specs.ExampleLayers.{filled, lower, upper}
+use Rattle.examples.specs.ExampleLayers.{filled, lower, upper}
 
 pub layers : (Layer 69 8 lower) × (Layer 69 8 upper)
 unfolding endToEnd filled lower upper pick powerUpTo leAt leBytes sameAt zeros rows grains directoryEntries directorySectors kdmvFields kdmvFault kdmvHeader directoryOf headerOf unlessFault withFooter judgeKdmv judgeOf meaning inTable entryOfGrain grainSectors anyBelow ifThere named redundantTables areas runsPast shares sharesAny meet misplaced lowestFrom copiesDiffer unlessGrain checkApart checkCopies checkGrains checkLayout checkFrom
