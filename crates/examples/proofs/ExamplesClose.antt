@@ -27,7 +27,8 @@ use Rattle.format.specs.declared.CheckAnswer.the-variants.{Accepted}
 use Rattle.format.specs.declared.LookupAnswer.the-variants.{Found}
 use Rattle.format.specs.declared.closing.CloseAnswer.{CloseAnswer}
 use Rattle.format.specs.declared.closing.CloseAnswer.the-variants.{Closed, Refused}
-use Rattle.examples.specs.Images.{joined, with, startSector, start, smallCowd, small, plainHeader, streamHeader, startHeader}
+use Rattle.examples.specs.Images.{joined, with, startSector, start, smallCowd, small, plainHeader, streamHeader}
+use Rattle.examples.specs.Images.{startHeader}
 use Rattle.examples.specs.Examples.{Example, example, Hold}
 use Rattle.laws.specs.Closed.{Closable, Among, first}
 use Rattle.laws.proofs.ClosedAccepted.{closed-accepted}
