@@ -145,7 +145,7 @@ fn meaning(numbers: &Numbers, at: u64, value: u64, bytes: &[u8]) -> String {
         72 if value == 0 => "0, closed".to_string(),
         72 => format!("{value}, still open when it was copied"),
         73 if bytes == NEWLINE_BYTES => "newline, space, return, newline".to_string(),
-        73 => "others than newline, space, return, newline".to_string(),
+        73 => "changed, as by a copy in text mode".to_string(),
         79 => zeros(bytes),
         _ => value.to_string(),
     }
