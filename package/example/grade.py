@@ -19,4 +19,4 @@ def grade(path: Path, wanted: list[list[str]]) -> str:
 
 wanted = [line.split() for line in Path(sys.argv[1]).read_text().splitlines()]
 for path in sorted(Path(sys.argv[2]).iterdir()):
-    print(f"{path.name}: {grade(path, wanted)}")
+    print(f"{repr(path.name)[1:-1]}: {grade(path, wanted)}")

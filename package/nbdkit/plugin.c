@@ -167,15 +167,16 @@ static uint32_t extent_type(uint64_t kind)
     }
 }
 
-/* One question a grain, as the tool's map: a grain's sectors are of one kind. nbdkit puts neighbours together, and cuts the
-   last one off at the end. */
+/* One question a grain, as the tool's map: a grain's sectors are of one kind. nbdkit puts neighbours together. Nothing past what
+   was asked for is told: of more than 2^32 - 1 bytes in a row some nbdkits end. */
 static int chain_extents(void *handle, uint32_t count, uint64_t offset, uint32_t flags, struct nbdkit_extents *extents)
 {
     (void)handle;
     uint64_t grain = ANHKHOVET_SECTOR * chain.grain_size;
     uint64_t end = offset + count;
     uint32_t first = 0;
-    for (uint64_t at = offset; at < end; at += grain - at % grain) {
+    for (uint64_t at = offset, next; at < end; at = next) {
+        next = at + (grain - at % grain) < end ? at + (grain - at % grain) : end;
         AnhkhovetLocated source = chain_at(&chain, at / ANHKHOVET_SECTOR);
         if (source.number != ANHKHOVET_ANSWERED)
             return chain_refused(&chain, source);
@@ -184,7 +185,7 @@ static int chain_extents(void *handle, uint32_t count, uint64_t offset, uint32_t
             first = type;
         if ((flags & NBDKIT_FLAG_REQ_ONE) != 0 && type != first)
             break;
-        if (nbdkit_add_extent(extents, at, grain - at % grain, type) != 0)
+        if (nbdkit_add_extent(extents, at, next - at, type) != 0)
             return -1;
     }
     return chain_same(&chain);

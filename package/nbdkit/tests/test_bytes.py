@@ -102,6 +102,14 @@ class Bytes(Case):
         wanted = [(0, 65536, True), (65536, 65536, False), (131072, 65536, True), (196608, 65536, False), (262144, 786432, True)]
         self.assertEqual(found, wanted)
 
+    def test_long_maps(self) -> None:
+        """Disks of over 4 GiB are mapped whole: an empty one, and one with a grain on each side of that edge"""
+        empty = made(self.folder / "empty.vmdk", "9G")
+        written = made(self.folder / "written.vmdk", "9G", "write -q -P 1 4294901760 128k")
+        for image in (empty, written):
+            with Served(image) as server:
+                self.assertEqual(server.runs(), mapped(image))
+
     def test_four_readers(self) -> None:
         """Four readers at once give the same bytes"""
         disk = self.disk

@@ -4,7 +4,7 @@ from pathlib import Path
 from typing import Callable
 
 from served import Case, Served
-from wire import EIO, READ, Client
+from wire import EIO, READ, Client, StatusClient
 
 GRAIN = 65536
 
@@ -14,9 +14,11 @@ class Changes(Case):
         """Before the change there are answers, after it none, and the file is named; a new client is turned away."""
         base, middle = self.copy("tool-base.vmdk"), self.copy("tool-middle.vmdk")
         with Served(base, middle) as server:
-            with Client(server.socket) as client:
+            with Client(server.socket) as client, StatusClient(server.socket) as asked:
                 self.assertEqual(client.read(0, 2), b"AA")
+                self.assertEqual(asked.status(0, 512), 0)
                 change(base)
+                self.assertEqual(asked.status(0, 512), EIO)
                 # Also for what is read from the other file, and for what is from none.
                 for at in (0, GRAIN, 2 * GRAIN, 8 * GRAIN):
                     self.assertEqual(client.ask(READ, at, 512)[0], EIO)

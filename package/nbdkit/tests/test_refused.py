@@ -48,7 +48,9 @@ class Refused(Case):
                 self.assertTrue(number == TOO_LONG or accepted == (verdict == "accepted"))
                 self.assertEqual((answer.returncode, answer.stdout), (0, b"served\n") if accepted else (1, b""))
                 if not accepted:
-                    self.assertEqual(unhinted(line(answer)), unhinted(said))
+                    # The hints of 8 name commands, which a server has not.
+                    shown = unhinted if ": refused 8:" in said else str
+                    self.assertEqual(shown(line(answer)), shown(said))
                     self.assertTrue(number == TOO_LONG or f": refused {number}" in line(answer))
                     met.add(number)
         self.assertGreaterEqual(met, {str(number) for number in range(1, 13)} | {"43"})

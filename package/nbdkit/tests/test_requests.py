@@ -1,4 +1,5 @@
 """Requests at odd places, of packed grains, past the end and to write; and what a server is asked to serve."""
+import json
 import os
 from pathlib import Path
 
@@ -94,6 +95,13 @@ class Requests(Case):
             status = Path(f"/proc/{server.process.pid}/status").read_text()
             resident = int(status.split("VmRSS:")[1].split()[0])
             self.assertLess(resident, 400 << 10)
+
+    def test_what_is_told(self) -> None:
+        """Several connections may be made, the preferred block is a grain, and requests run side by side"""
+        with Served(BASE) as server:
+            export = json.loads(run("nbdinfo", "--json", server.uri).stdout)["exports"][0]
+        self.assertEqual((export["can_multi_conn"], export["block_size_preferred"]), (True, GRAIN))
+        self.assertIn(b"\nthread_model=parallel\n", run("nbdkit", "--dump-plugin", served.PLUGIN).stdout)
 
     def test_parameters(self) -> None:
         """Files may be named without `file=`, and words that it does not know are told"""

@@ -4,7 +4,9 @@ import struct
 from pathlib import Path
 from typing import Tuple
 
-READ, WRITE, TRIM, WRITE_ZEROES = 0, 1, 4, 6
+READ, WRITE, TRIM, WRITE_ZEROES, BLOCK_STATUS = 0, 1, 4, 6, 7
+# Options before the requests, the answer that ends one, and the kinds of reply that are errors.
+GO, STRUCTURED, SET_CONTEXT, ACKNOWLEDGED, ERRORS = 7, 8, 10, 1, 1 << 15
 # Error numbers of the protocol.
 EPERM, EIO, EINVAL = 1, 5, 22
 READ_ONLY = 2
@@ -19,7 +21,10 @@ class Client:
         self.stream.connect(str(path))
         assert self.take(16) == b"NBDMAGICIHAVEOPT"
         self.take(2)
-        # Fixed newstyle without zeroes behind; then the export without a name.
+        self.greet()
+
+    def greet(self) -> None:
+        """Fixed newstyle without zeroes behind; then the export without a name."""
         self.stream.sendall(struct.pack(">I8sII", 3, b"IHAVEOPT", 1, 0))
         self.size, self.flags = struct.unpack(">QH", self.take(10))
 
@@ -49,3 +54,33 @@ class Client:
         error, found = self.ask(READ, offset, length)
         assert error == 0, f"error {error}"
         return found
+
+
+class StatusClient(Client):
+    """One connection that asks for block status."""
+
+    def greet(self) -> None:
+        context = b"base:allocation"
+        self.stream.sendall(struct.pack(">I", 3))
+        self.option(STRUCTURED, b"")
+        self.option(SET_CONTEXT, struct.pack(">III", 0, 1, len(context)) + context)
+        self.option(GO, struct.pack(">IH", 0, 0))
+
+    def option(self, what: int, data: bytes) -> None:
+        self.stream.sendall(struct.pack(">8sII", b"IHAVEOPT", what, len(data)) + data)
+        kind = 0
+        while kind != ACKNOWLEDGED:
+            _, _, kind, length = struct.unpack(">QIII", self.take(20))
+            assert kind < 1 << 31, f"option {what} refused: {kind:x}"
+            self.take(length)
+
+    def status(self, offset: int, length: int) -> int:
+        """The error number of a request for block status, 0 for none."""
+        self.stream.sendall(struct.pack(">IHHQQI", 0x25609513, 0, BLOCK_STATUS, 7, offset, length))
+        error, done = 0, 0
+        while not done:
+            magic, done, kind, _, count = struct.unpack(">IHHQI", self.take(20))
+            assert magic == 0x668E33EF
+            data = self.take(count)
+            error = struct.unpack(">I", data[:4])[0] if kind & ERRORS else error
+        return error

@@ -192,7 +192,9 @@ def _opened() -> ctypes.CDLL:
     named = os.environ.get(VARIABLE)
     module = Path(__file__).resolve()
     # Beside the module, and where the package's tarball has it, below one lib with the module.
-    near = [module.with_name(LIBRARY), *(folder / LIBRARY for folder in module.parents[3:4])]
+    near = [module.with_name(LIBRARY)]
+    if module.parts[-5:-2] == ("lib", "python3", "dist-packages"):
+        near.append(module.parents[3] / LIBRARY)
     place = named or next((str(path) for path in near if path.exists()), LIBRARY)
     try:
         return ctypes.CDLL(place)

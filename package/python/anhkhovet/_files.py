@@ -5,8 +5,8 @@ import errno
 import os
 import stat
 import time
-from types import TracebackType
-from typing import TypeAlias, Union
+from contextlib import contextmanager
+from typing import Iterator, TypeAlias, Union
 
 from ._lent import Memory, own
 
@@ -17,7 +17,12 @@ _TICK = 0.001
 # Ticks: longer than the clock by which the kernel stamps files takes to go on, and how long a file is waited for.
 _STILL, _PATIENCE = 20, 100
 
-_Facts: TypeAlias = tuple[int, int, int]
+_Facts: TypeAlias = tuple[int, int, int, int, int]
+
+
+def _look(file: int) -> _Facts:
+    told = os.fstat(file)
+    return told.st_size, told.st_mtime_ns, told.st_ctime_ns, told.st_dev, told.st_ino
 
 
 class Changed(OSError):
@@ -36,76 +41,84 @@ def unfit(path: str, why: str) -> OSError:
 
 
 class PlainFile:
-    """An opened file, and what shows that it was written since then."""
+    """A file, and what shows that it was written since it was first looked at. It is open only while it is read: a survey takes
+    more files than a process may have open."""
 
-    def __init__(self, path: Path) -> None:
-        self.path = os.fspath(path)
-        # Before it is opened: a pipe would be waited for, and a device touched.
-        self._plain(os.stat(self.path))
-        self._file = os.open(self.path, os.O_RDONLY | os.O_NONBLOCK | os.O_CLOEXEC)
-        try:
-            self._plain(os.fstat(self._file))
-            self._facts = self._settled()
-        except BaseException:
-            os.close(self._file)
-            raise
+    def __init__(self, path: Path, follow: bool = True) -> None:
+        self.path, self._follow = os.fspath(path), follow
+        with self._opened() as file:
+            self._facts = self._settled(file)
         self.length = self._facts[0]
 
-    def __enter__(self) -> PlainFile:
-        return self
-
-    def __exit__(self, kind: type[BaseException] | None, error: BaseException | None, trace: TracebackType | None) -> None:
-        os.close(self._file)
+    @contextmanager
+    def _opened(self) -> Iterator[int]:
+        # Before it is opened: a pipe would be waited for, and a device touched.
+        self._plain(os.stat(self.path, follow_symlinks=self._follow))
+        flags = os.O_RDONLY | os.O_NONBLOCK | os.O_CLOEXEC | (0 if self._follow else os.O_NOFOLLOW)
+        file = os.open(self.path, flags)
+        try:
+            self._plain(os.fstat(file))
+            yield file
+        finally:
+            os.close(file)
 
     def _plain(self, told: os.stat_result) -> None:
         if not stat.S_ISREG(told.st_mode):
             raise unfit(self.path, "is no plain file, and only those can be read")
 
-    def _look(self) -> _Facts:
-        told = os.fstat(self._file)
-        return told.st_size, told.st_mtime_ns, told.st_ctime_ns
-
-    def _settled(self) -> _Facts:
+    def _settled(self, file: int) -> _Facts:
         """Waits until the clock has gone on since the last change: only then does the next one get another time."""
-        facts, still = self._look(), 0
+        facts, still = _look(file), 0
         for _ in range(_PATIENCE):
             if facts[2] < time.clock_gettime_ns(_CLOCK_REALTIME_COARSE) or still >= _STILL:
                 return facts
             time.sleep(_TICK)
-            now = self._look()
+            now = _look(file)
             facts, still = now, still + 1 if now == facts else 0
         raise Changed(self.path)
 
-    def _data(self, at: int) -> tuple[int, int]:
+    def _data(self, file: int, at: int) -> tuple[int, int]:
         """The next bytes from there on that are no hole."""
         try:
-            start = os.lseek(self._file, at, os.SEEK_DATA)
-            return start, min(os.lseek(self._file, start, os.SEEK_HOLE), self.length)
+            start = os.lseek(file, at, os.SEEK_DATA)
+            return start, min(os.lseek(file, start, os.SEEK_HOLE), self.length)
         except OSError as error:
             # Nothing but a hole is left; else it is a file system that knows no holes.
             return (self.length if error.errno == errno.ENXIO else at), self.length
 
     def fill(self, zeros: memoryview) -> None:
         """Puts the file's bytes over as many zeros, and leaves its holes out, so that they cost nothing."""
-        at = 0
-        while at < self.length:
-            at, end = self._data(at)
-            while at < end:
-                read = os.preadv(self._file, [zeros[at:end]], at)
-                if read == 0:
-                    raise Changed(self.path)
-                at += read
+        with self._opened() as file:
+            at = 0
+            while at < self.length:
+                at, end = self._data(file, at)
+                while at < end:
+                    read = os.preadv(file, [zeros[at:end]], at)
+                    if read == 0:
+                        raise Changed(self.path)
+                    at += read
 
     def same(self) -> None:
-        """Fails where length or times are other than they were at the opening."""
-        if self._look() != self._facts:
-            raise Changed(self.path)
+        """Fails where it is another file, or length or times are other than they were at first."""
+        with self._opened() as file:
+            if _look(file) != self._facts:
+                raise Changed(self.path)
 
 
-def read_whole(path: Path) -> Memory:
+def room_for(length: int, paths: list[str]) -> Memory:
+    """Memory for files and buffers. That files are too long is their fault, and told as one of theirs."""
+    try:
+        return own(length)
+    except MemoryError as error:
+        if not paths:
+            raise
+        raise OSError(errno.ENOMEM, "is too long to be read into memory", ", ".join(paths)) from error
+
+
+def read_whole(path: Path, follow: bool = True) -> Memory:
     """The bytes of one file, as they were at one time."""
-    with PlainFile(path) as file:
-        memory = own(file.length)
-        file.fill(memory.view)
-        file.same()
+    file = PlainFile(path, follow)
+    memory = room_for(file.length, [file.path])
+    file.fill(memory.view)
+    file.same()
     return memory

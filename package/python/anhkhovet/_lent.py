@@ -3,6 +3,7 @@ from __future__ import annotations
 
 import ctypes
 import mmap
+from contextlib import suppress
 from typing import TypeAlias, Union
 
 Buffer: TypeAlias = Union[bytes, bytearray, memoryview, mmap.mmap]
@@ -40,7 +41,7 @@ def of_bytes(data: bytes) -> Memory:
 
 def of_buffer(buffer: Buffer) -> Memory:
     """Any other buffer is copied: a thread or another program may change it in the middle of a call."""
-    return of_bytes(buffer if isinstance(buffer, bytes) else memoryview(buffer).tobytes())
+    return of_bytes(buffer if type(buffer) is bytes else memoryview(buffer).tobytes())
 
 
 def own(length: int) -> Memory:
@@ -50,10 +51,14 @@ def own(length: int) -> Memory:
         area = mmap.mmap(-1, max(length, 1), flags=_ANONYMOUS)
     except (OSError, OverflowError) as error:
         raise MemoryError(f"{length} bytes of memory are not to be had") from error
+    # A large page for each table that stands alone would take 2 MiB.
+    with suppress(OSError):
+        area.madvise(mmap.MADV_NOHUGEPAGE)
     held = (ctypes.c_ubyte * length).from_buffer(area)
     return Memory(held, ctypes.addressof(held), memoryview(area)[:length])
 
 
 def words(count: int) -> Words:
     """A list of so many numbers, all 0."""
-    return (ctypes.c_uint64 * count).from_buffer(own(8 * count).view)
+    memory = own(8 * count)
+    return (ctypes.c_uint64 * count).from_buffer(memory.view)

@@ -2,6 +2,7 @@
 from __future__ import annotations
 
 import ctypes
+import os
 import platform
 import resource
 import threading
@@ -24,6 +25,8 @@ _POINTER = 160
 _STRUCT = 4096
 
 _starting = threading.Lock()
+# A child has none of the threads that could let go of it: no fork stands between the two sizes of stack.
+os.register_at_fork(before=_starting.acquire, after_in_parent=_starting.release, after_in_child=_starting.release)
 
 
 class _Lowest(threading.local):

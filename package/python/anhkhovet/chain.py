@@ -1,13 +1,12 @@
 """Several images: the layers of a chain, and a survey."""
 from __future__ import annotations
 
-from contextlib import ExitStack
 from functools import reduce
 from types import TracebackType
 from typing import Iterable
 
 from . import _calls as calls
-from ._files import PlainFile
+from ._files import PlainFile, room_for
 from ._lent import BUFFERS, Memory, of_buffer, own, words
 from ._told import judged, number_of, rows_of, source_of, words_of
 from .answers import Counts, Geometry, Located, Survey, Tallied
@@ -20,29 +19,29 @@ _ROW, _TALLY = 6, 63
 _WHOLE = (20, 22, 24)
 
 
-def _taken(given: Given, opened: ExitStack) -> Memory | PlainFile:
+def _taken(given: Given) -> Memory | PlainFile:
     if isinstance(given, Image):
         return given._lent
-    return of_buffer(given) if isinstance(given, BUFFERS) else opened.enter_context(PlainFile(given))
+    return of_buffer(given) if isinstance(given, BUFFERS) else PlainFile(given)
 
 
 def _end_to_end(given: Iterable[Given]) -> tuple[Memory, list[Image]]:
     """One memory with the bytes of all images in a row, and each of them as a part of it."""
-    with ExitStack() as opened:
-        sources = [_taken(each, opened) for each in given]
-        whole, at, images = own(sum(source.length for source in sources)), 0, []
-        for source in sources:
-            part = whole.part(at, source.length)
-            if isinstance(source, PlainFile):
-                source.fill(part.view)
-            else:
-                part.view[:] = source.view
-            images.append(Image._of(part, source.path if isinstance(source, PlainFile) else None))
-            at += source.length
-        # All together, so that what is told of them held at one time.
-        for source in sources:
-            if isinstance(source, PlainFile):
-                source.same()
+    sources = [_taken(each) for each in given]
+    paths = [source.path for source in sources if isinstance(source, PlainFile)]
+    whole, at, images = room_for(sum(source.length for source in sources), paths), 0, []
+    for source in sources:
+        part = whole.part(at, source.length)
+        if isinstance(source, PlainFile):
+            source.fill(part.view)
+        else:
+            part.view[:] = source.view
+        images.append(Image._of(part, source.path if isinstance(source, PlainFile) else None))
+        at += source.length
+    # All together, so that what is told of them held at one time.
+    for source in sources:
+        if isinstance(source, PlainFile):
+            source.same()
     return whole, images
 
 
@@ -71,6 +70,11 @@ class Chain:
         for layer in self.layers:
             layer.close()
 
+    @property
+    def closed(self) -> bool:
+        """Whether the bytes are gone."""
+        return self._memory is None
+
     def __enter__(self) -> Chain:
         self._lent
         return self
@@ -84,13 +88,14 @@ class Chain:
     def check(self) -> Geometry:
         """Judges every layer by the full check, base first, then that they are one chain. Refusals: those of `Image.check` with
         the layer, 24, 22."""
+        said = []
         for number, layer in enumerate(self.layers):
             try:
-                layer.check()
+                said.append(layer.check())
             except Refused as refused:
                 raise Refused(refused.number, refused.place, layer=number) from None
         self.lookup(0)
-        return self.layers[0].check()
+        return said[0]
 
     def lookup(self, sector: int) -> Located:
         """Where a virtual sector comes from: the topmost layer in which it is not absent, else layer 0 and absent.

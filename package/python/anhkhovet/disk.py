@@ -69,18 +69,23 @@ class Disk:
 
     def __init__(self, text: Path | Buffer, files: Sequence[Given | None] | None = None) -> None:
         self.path: str | None = None
+        if isinstance(files, (str, *BUFFERS)):
+            raise TypeError(f"the files of a disk are a list, not one {type(files).__name__}")
         if isinstance(text, BUFFERS):
             if files is None:
                 raise TypeError("a descriptor's bytes do not say where its files are: hand them in too")
             self._text = of_buffer(text)
         elif isinstance(text, (str, os.PathLike)):
             self._text, self.path = read_whole(text), os.fspath(text)
+            # Files are looked for later, when the process may stand elsewhere.
+            self._folder = os.path.realpath(os.path.dirname(self.path) or os.curdir)
         else:
             raise TypeError(f"a disk is the path of a descriptor or its bytes, not {type(text).__name__}")
         self.descriptor: Descriptor = _described(self._text)
         self._given = files is not None
-        self._files = [_file(each) for each in ([None] * len(self.extents) if files is None else files)]
-        self.closed = False
+        self._files: list[Image | None] | None = [
+            _file(each) for each in ([None] * len(self.extents) if files is None else files)
+        ]
 
     @property
     def extents(self) -> tuple[Extent, ...]:
@@ -94,8 +99,12 @@ class Disk:
 
     def close(self) -> None:
         """Lets go of the files' bytes."""
-        self.closed = True
-        self._files = [None] * len(self._files)
+        self._files = None
+
+    @property
+    def closed(self) -> bool:
+        """Whether the bytes are gone."""
+        return self._files is None
 
     def __enter__(self) -> Disk:
         self._open()
@@ -104,29 +113,32 @@ class Disk:
     def __exit__(self, kind: type[BaseException] | None, error: BaseException | None, trace: TracebackType | None) -> None:
         self.close()
 
-    def _open(self) -> None:
-        if self.closed:
+    def _open(self) -> list[Image | None]:
+        """The files as they are now, which stay whole if another thread closes the disk."""
+        files = self._files
+        if files is None:
             raise ValueError("the disk is closed")
+        return files
 
     def _beside(self, extent: Extent) -> str:
         """The file of an extent: in the descriptor's own folder, and in no other, whatever the name or a link says."""
-        assert self.path is not None
-        folder = os.path.dirname(self.path)
-        path = os.path.join(folder, extent.name)
+        path = os.path.join(self._folder, extent.name)
         if extent.name in (".", "..") or "/" in extent.name or "\\" in extent.name:
             raise unfit(path, "has a folder in its name, and the files of extents are looked for beside the descriptor alone")
         found = os.path.realpath(path, strict=True)
-        if os.path.dirname(found) != os.path.realpath(folder or os.curdir):
+        if os.path.dirname(found) != self._folder:
             raise unfit(path, "is a link that leads out of the descriptor's folder")
         return found
 
-    def _file_of(self, number: int) -> Image | None:
+    def _file_of(self, files: list[Image | None], number: int) -> Image | None:
         """The file of an extent, read once. What its line alone refuses is not opened."""
-        extent = self.extents[number]
+        extent, file = self.extents[number], files[number] if number < len(files) else None
         in_file = extent.kind in _IN_FILES and extent.access is not Access.NOACCESS
-        if not self._given and in_file and self._files[number] is None:
-            self._files[number] = Image(self._beside(extent))
-        return self._files[number] if number < len(self._files) else None
+        if not self._given and in_file and file is None:
+            path = self._beside(extent)
+            # What a link led to is no link: one that takes its place is not followed.
+            file = files[number] = Image._of(read_whole(path, follow=False), path)
+        return file
 
     def find(self, sector: int) -> int:
         """The extent that holds a sector. Refusal: 20."""
@@ -139,30 +151,33 @@ class Disk:
         except Refused:
             return None
 
-    def lookup(self, sector: int) -> Placed:
-        """Where a virtual sector comes from. Only its own extent is judged, and only that one's file is read. Refusals: 24
-        where there is not a file for each extent; 20; then of the sector's own extent 39, 43, 45, those of the check, 38."""
-        self._open()
-        lengths, lent = [0] * len(self._files), own(0)
+    def _looked_up(self, sector: int) -> tuple[Placed, Image | None]:
+        """Where a sector comes from, with the file that was asked."""
+        files = self._open()
+        lengths, lent = [0] * len(files), own(0)
         number = self._holder(sector)
-        file = None if number is None else self._file_of(number)
+        file = None if number is None else self._file_of(files, number)
         if number is not None and file is not None:
             lent, lengths[number] = file._lent, len(file)
         said = calls.split(self._text, lent, words_of(lengths), number_of(sector))
         if said.number:
             raise Refused(said.number, said.place, extent=None if said.number in _WHOLE else said.layer)
-        return Placed(said.layer, source_of(said))
+        return Placed(said.layer, source_of(said)), file
+
+    def lookup(self, sector: int) -> Placed:
+        """Where a virtual sector comes from. Only its own extent is judged, and only that one's file is read. Refusals: 24
+        where there is not a file for each extent; 20; then of the sector's own extent 39, 43, 45, those of the check, 38."""
+        return self._looked_up(sector)[0]
 
     def read(self, sector: int) -> bytes:
         """The bytes behind a sector's source: 512 of a stored one, the payload of a packed grain, none where it is absent or
         zero. Refusals are the lookup's."""
-        placed = self.lookup(sector)
-        file = self._files[placed.extent]
+        placed, file = self._looked_up(sector)
         if file is None:
             return b""
         if isinstance(placed.source, Stored):
             return file.data[SECTOR * placed.source.sector :][:SECTOR].tobytes()
-        return file.read(sector - self.extents[placed.extent].first) if isinstance(placed.source, Packed) else b""
+        return file.read(number_of(sector) - self.extents[placed.extent].first) if isinstance(placed.source, Packed) else b""
 
     def check(self) -> None:
         """Judges every extent, each by a sector of its own, and raises the first refusal."""

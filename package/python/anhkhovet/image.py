@@ -221,16 +221,17 @@ def mend_in(buffer: Buffer, good: Side) -> tuple[Change, ...]:
     keeps what it held. Nobody else may write it meanwhile."""
     if not isinstance(buffer, BUFFERS):
         raise TypeError(f"what is mended is a bytearray, memoryview or mmap, not {type(buffer).__name__}")
-    view = memoryview(buffer).cast("B")
-    if view.readonly:
-        raise TypeError("the buffer is read-only, and mending writes")
-    memory = own(len(view))
-    memory.view[:] = view
-    changes = _mended(memory, good)
-    # Pages that are as they were are left alone: of a mapped file only what changed is written.
-    for at in range(0, len(view), SECTOR):
-        if view[at : at + SECTOR] != memory.view[at : at + SECTOR]:
-            view[at : at + SECTOR] = memory.view[at : at + SECTOR]
+    # Let go of also where it is refused: a refusal's traceback would keep a mapping from being closed.
+    with memoryview(buffer) as given, given.cast("B") as view:
+        if view.readonly:
+            raise TypeError("the buffer is read-only, and mending writes")
+        memory = own(len(view))
+        memory.view[:] = view
+        changes = _mended(memory, good)
+        # Pages that are as they were are left alone: of a mapped file only what changed is written.
+        for at in range(0, len(view), SECTOR):
+            if view[at : at + SECTOR] != memory.view[at : at + SECTOR]:
+                view[at : at + SECTOR] = memory.view[at : at + SECTOR]
     return changes
 
 

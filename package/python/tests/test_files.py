@@ -18,12 +18,12 @@ TEXT = '# Disk DescriptorFile\nversion=1\nCID=1\nparentCID=ffffffff\ncreateType=
 
 def told_as_changed(path: Path, change: object) -> None:
     """Opens the file, has it changed, and reads it on."""
-    with PlainFile(path) as file:
-        assert callable(change)
-        change()
-        with pytest.raises(Changed, match="changed while it was read"):
-            file.fill(memoryview(bytearray(file.length)))
-            file.same()
+    file = PlainFile(path)
+    assert callable(change)
+    change()
+    with pytest.raises(Changed, match="changed while it was read"):
+        file.fill(memoryview(bytearray(file.length)))
+        file.same()
 
 
 def test_a_file_that_changes(tmp_path: Path) -> None:
@@ -176,3 +176,19 @@ def test_only_the_sector_s_own_file_is_read(tmp_path: Path) -> None:
     assert disk.lookup(2).source == Stored(130)
     with pytest.raises(FileNotFoundError):
         disk.lookup(2048)
+
+
+def test_what_is_written_meanwhile_is_told(tmp_path: Path, monkeypatch: pytest.MonkeyPatch) -> None:
+    path, read = tmp_path / "image", os.preadv
+    path.write_bytes(BASE.read_bytes())
+
+    def meanwhile(file: int, to: list[memoryview], at: int) -> int:
+        said = read(file, to, at)
+        with path.open("r+b") as other:
+            other.write(b"K")
+        return said
+
+    monkeypatch.setattr(os, "preadv", meanwhile)
+    for call in (lambda: Image(path), lambda: Chain([path]), lambda: survey([path]), lambda: Disk(path)):
+        with pytest.raises(Changed):
+            call()

@@ -1,6 +1,7 @@
 """docs/PYTHON.md: its examples, its grader and its table are what they say."""
 import doctest
 import hashlib
+import os
 import re
 import shutil
 import subprocess
@@ -96,6 +97,14 @@ def test_the_grader_takes_lists_of_packed_images(tmp_path: Path) -> None:
     line = printed.splitlines()[1].strip()
     assert line.endswith(" packed")
     assert graded(tmp_path, line + "\n") == "tool-packed.vmdk: 1 of 2048 sectors agree\n"
+
+
+def test_a_name_stays_on_its_line(tmp_path: Path) -> None:
+    (tmp_path / "submissions").mkdir()
+    shutil.copy(SAMPLES / "tool-top.vmdk", tmp_path / "submissions/cy: 2048 of 2048 sectors agree\nbo")
+    shutil.copy(SAMPLES / "tool-top.vmdk", tmp_path / "submissions" / os.fsdecode(b"\xff"))
+    said = graded(tmp_path, listed(BASE)).splitlines()
+    assert [line.rsplit(": ", 1)[0] for line in said] == ["cy: 2048 of 2048 sectors agree\\nbo", "\\udcff"]
 
 
 def test_a_payload_that_is_none_is_told(tmp_path: Path) -> None:
