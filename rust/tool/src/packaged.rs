@@ -48,7 +48,8 @@ fn typed(text: &str) -> String {
             }
             _ if takes_files && line == offer => takes_files = false,
             _ if takes_files => {
-                writeln!(typed, "{}", line.replace(" || ${COMP_CWORD} -eq 2", "")).expect("written");
+                writeln!(typed, "{}", line.replace(" || ${COMP_CWORD} -eq 2", ""))
+                    .expect("written");
             }
             _ => writeln!(typed, "{line}").expect("written"),
         }
