@@ -32,7 +32,8 @@ mod splits;
 mod told;
 mod ways;
 
-use compare::cases::run_cases;
+use compare::cases::case;
+use compare::rng::Rng;
 use compare::run::Run;
 use compare::side::{Plain, Side};
 use compare::tally::{Call, Tally};
@@ -232,20 +233,25 @@ fn wrapped(lengths: &[u64]) -> u64 {
     lengths.iter().fold(0, add)
 }
 
-fn tally(side: &dyn Side, count: u64) -> Tally {
+/// What cases come to until it is enough, or as many were run as the gate runs.
+fn tally_until(side: &dyn Side, enough: impl Fn(&Tally) -> bool) -> Tally {
     let mut run = Run::new([side, &Plain], Call::all(), PathBuf::new());
     run.quiet = true;
-    run_cases(&mut run, 1, 0, count);
+    let mut number = 0;
+    while run.tally.comparisons < 100_000 && !enough(&run.tally) {
+        case(&mut run, &mut Rng::new(1, number), number);
+        number += 1;
+    }
     run.tally
 }
 
-/// Few cases catch most, and as many as the gate runs the others.
+fn tally(side: &dyn Side, count: u64) -> Tally {
+    tally_until(side, |tally| tally.comparisons >= count)
+}
+
 fn is_caught(mistake: Mistake) -> bool {
-    let caught = |count| {
-        let tally = tally(&mistake, count);
-        tally.differences > 0 && !tally.good()
-    };
-    caught(4000) || caught(100_000)
+    let tally = tally_until(&mistake, |tally| tally.differences > 0);
+    tally.differences > 0 && !tally.good()
 }
 
 #[test]

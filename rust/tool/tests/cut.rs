@@ -124,7 +124,7 @@ mod writing {
     use super::*;
     use held::{held, signal, BIG};
     use std::fs::File;
-    use std::os::unix::fs::FileExt;
+    use std::os::unix::fs::{FileExt, MetadataExt};
     use std::thread::yield_now;
 
     fn ran(child: Child) -> Ran {
@@ -178,8 +178,8 @@ mod writing {
         let part = folder.at(&folder.names()[0]);
         let part = File::options().write(true).open(part).expect("the part");
         signal(&child, libc::SIGCONT);
-        // It gets its length before it is written.
-        while part.metadata().expect("facts").len() == 0 {
+        // Only once it has blocks: until these are asked for, a length that is taken away comes back with them.
+        while part.metadata().expect("facts").blocks() == 0 {
             yield_now();
         }
         part.set_len(0).expect("a length");

@@ -12,11 +12,15 @@ use compare::side::Plain;
 use compare::tally::Call;
 use std::collections::BTreeMap;
 use std::io;
+use std::ops::Range;
 use std::path::{Path, PathBuf};
+use std::thread;
 
 const SEED: u64 = 21;
 /// How many of the generators' cases are tried.
 const TRIED: u64 = 32_000;
+/// How many threads share them; what is chosen does not depend on it.
+const THREADS: u64 = 2;
 /// The program's limits.
 const MOST_LAYERS: usize = 17;
 const MOST_ROOM: u64 = 65_536;
@@ -71,9 +75,7 @@ fn sample(image: Vec<u8>) -> Case {
 fn generated() -> Vec<Case> {
     let mut reached: BTreeMap<String, u64> = BTreeMap::new();
     let mut chosen = Vec::new();
-    for case in candidates() {
-        let lines = case.lines();
-        let answers: Vec<String> = lines.iter().flat_map(|line| kinds(&case, line)).collect();
+    for (case, answers) in candidates() {
         let seldom = |answer: &String| {
             reached
                 .get(answer)
@@ -105,18 +107,34 @@ fn wanted(case: &Case, answer: &str) -> u64 {
     }
 }
 
-/// What the generators ask, small images first.
-fn candidates() -> Vec<Case> {
+/// What the generators ask, small images first, with the kinds of its answers.
+fn candidates() -> Vec<(Case, Vec<String>)> {
+    let mut candidates: Vec<_> = thread::scope(|scope| {
+        let share = |thread| TRIED * thread / THREADS;
+        let tried = |thread| scope.spawn(move || asked(share(thread)..share(thread + 1)));
+        let parts: Vec<_> = (0..THREADS).map(tried).collect();
+        let parts = parts.into_iter().map(|part| part.join().unwrap());
+        parts.flatten().collect()
+    });
+    // Of texts the short ones are too plain to be preferred.
+    candidates.sort_by_key(|(case, _)| if is_short(case) { 0 } else { case.bytes.len() });
+    candidates
+}
+
+/// What some of the generators' cases ask.
+fn asked(numbers: Range<u64>) -> Vec<(Case, Vec<String>)> {
     let recorder = Recorder::default();
     let mut run = Run::new([&recorder, &Plain], Call::all(), PathBuf::new());
-    let mut candidates = Vec::new();
-    for number in 0..TRIED {
+    let mut asked = Vec::new();
+    for number in numbers {
         case(&mut run, &mut Rng::new(SEED, number), number);
-        candidates.extend(recorder.take().into_iter().filter(fits));
+        for case in recorder.take().into_iter().filter(fits) {
+            let lines = case.lines();
+            let answers = lines.iter().flat_map(|line| kinds(&case, line)).collect();
+            asked.push((case, answers));
+        }
     }
-    // Of texts the short ones are too plain to be preferred.
-    candidates.sort_by_key(|case| if is_short(case) { 0 } else { case.bytes.len() });
-    candidates
+    asked
 }
 
 /// Texts and lists are short, images are not: a COWD table alone takes 16 KB.
