@@ -14,6 +14,8 @@ Words: TypeAlias = ctypes.Array[ctypes.c_uint64]
 # Python has the name from 3.13 on; the number is Linux's.
 _NORESERVE = getattr(mmap, "MAP_NORESERVE", 0x4000)
 _ANONYMOUS = mmap.MAP_PRIVATE | mmap.MAP_ANONYMOUS | _NORESERVE
+# Bytes that are looked at together, where zeros are left out.
+_STRETCH = bytes(1 << 16)
 
 
 class Memory:
@@ -56,6 +58,14 @@ def own(length: int) -> Memory:
         area.madvise(mmap.MADV_NOHUGEPAGE)
     held = (ctypes.c_ubyte * length).from_buffer(area)
     return Memory(held, ctypes.addressof(held), memoryview(area)[:length])
+
+
+def put_over(zeros: memoryview, source: memoryview) -> None:
+    """Puts bytes over as many zeros, and leaves long zeros out: what was a hole in a file still costs nothing."""
+    for at in range(0, len(source), len(_STRETCH)):
+        part = source[at : at + len(_STRETCH)]
+        if bytes(part) != _STRETCH[: len(part)]:
+            zeros[at : at + len(part)] = part
 
 
 def words(count: int) -> Words:

@@ -7,7 +7,7 @@ from typing import Iterable
 
 from . import _calls as calls
 from ._files import PlainFile, room_for
-from ._lent import BUFFERS, Memory, of_buffer, own, words
+from ._lent import BUFFERS, Memory, of_buffer, own, put_over, words
 from ._told import judged, number_of, rows_of, source_of, words_of
 from .answers import Counts, Geometry, Located, Survey, Tallied
 from .image import Given, Image, collapse
@@ -35,7 +35,7 @@ def _end_to_end(given: Iterable[Given]) -> tuple[Memory, list[Image]]:
         if isinstance(source, PlainFile):
             source.fill(part.view)
         else:
-            part.view[:] = source.view
+            put_over(part.view, source.view)
         images.append(Image._of(part, source.path if isinstance(source, PlainFile) else None))
         at += source.length
     # All together, so that what is told of them held at one time.

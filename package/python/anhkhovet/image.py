@@ -9,7 +9,7 @@ from typing import Callable, TypeAlias, Union
 from . import _calls as calls
 from . import _face as face
 from ._files import Path, read_whole
-from ._lent import BUFFERS, Buffer, Memory, of_buffer, own, words
+from ._lent import BUFFERS, Buffer, Memory, of_buffer, own, put_over, words
 from ._told import (
     SECTOR, geometry_of, judged, number_of, rows_of, source_of, way_of, with_room, with_words,
 )
@@ -170,7 +170,7 @@ class Image:
         said, tail = with_room(lambda room: calls.close(lent, room), _MORE_BYTES)
         kept = SECTOR * said.sectors
         whole = own(kept + said.length)
-        whole.view[:kept] = lent.view[:kept]
+        put_over(whole.view[:kept], lent.view[:kept])
         whole.view[kept:] = tail.view[: said.length]
         return ClosedStream(said.sectors, said.grains, said.length, Image._of(whole))
 
@@ -178,7 +178,7 @@ class Image:
         """A copy in which every entry in use of the other side's tables is that of the good side, if that copy is accepted.
         Refusals: 1 to 8 and 43, 40."""
         copy = own(len(self))
-        copy.view[:] = self._lent.view
+        put_over(copy.view, self._lent.view)
         return Mended(Image._of(copy, self.path), _mended(copy, good))
 
 
@@ -226,7 +226,7 @@ def mend_in(buffer: Buffer, good: Side) -> tuple[Change, ...]:
         if view.readonly:
             raise TypeError("the buffer is read-only, and mending writes")
         memory = own(len(view))
-        memory.view[:] = view
+        put_over(memory.view, view)
         changes = _mended(memory, good)
         # Pages that are as they were are left alone: of a mapped file only what changed is written.
         for at in range(0, len(view), SECTOR):

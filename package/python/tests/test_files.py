@@ -9,7 +9,7 @@ import pytest
 from sources import SAMPLES
 
 import anhkhovet
-from anhkhovet import Changed, Chain, Disk, Image, Placed, Refused, Stored, survey
+from anhkhovet import Changed, Chain, Disk, Image, Placed, Refused, Side, Stored, survey
 from anhkhovet._files import PlainFile
 
 BASE = SAMPLES / "tool-base.vmdk"
@@ -127,6 +127,23 @@ def test_holes_cost_nothing(tmp_path: Path) -> None:
     image = Image(path)
     assert len(image) == 1 << 40 and image.lookup(2) == Stored(130)
     assert image.header().geometry == Image(BASE).check()
+
+
+def resident() -> int:
+    """Bytes of memory that this process takes."""
+    return int(Path("/proc/self/statm").read_text().split()[1]) * os.sysconf("SC_PAGESIZE")
+
+
+def test_holes_cost_nothing_when_an_image_is_taken_over(tmp_path: Path) -> None:
+    path = tmp_path / "long"
+    path.write_bytes(BASE.read_bytes())
+    os.truncate(path, 1 << 30)
+    image = Image(path)
+    before = resident()
+    chain, mended = Chain([image, path]), image.mend(Side.PRIMARY)
+    assert resident() - before < 1 << 26
+    assert chain.lookup(2).source == Stored(130) and mended.image.data[-1] == 0
+    assert chain.layers[0].data[: 1 << 20] == image.data[: 1 << 20] == mended.image.data[: 1 << 20]
 
 
 def split(folder: Path, *lines: str) -> Path:
