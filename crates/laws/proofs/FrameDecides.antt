@@ -112,7 +112,7 @@ module _ (s t : List ℕ) (both : SameFrame s t) where
       let r = listed-known s (both .room) (both .listCount) (judge s) (both .listed) in
       r .1 ∙ ap Known (judged-header s (r .0) (r .1))
 
-  parts : SameGroups s t (headerOf s)
+  pub parts : SameGroups s t (headerOf s)
   parts = groups s t (headerOf s) (both .areas)
 
   sectors-some : 1 ≤ fileSectors s
@@ -122,7 +122,7 @@ module _ (s t : List ℕ) (both : SameFrame s t) where
   unfolding headerOf kdmvHeader
   has-footer m = ap (λ (h : Header). h .footer) (pick-then _ _ _ m)
 
-  same-head : SameHead s t
+  pub same-head : SameHead s t
   same-head = record {
     fields = record {
       long = both .long;
@@ -153,7 +153,7 @@ module _ (s t : List ℕ) (both : SameFrame s t) where
             );
       }
 
-  decides : SameUsed s t
+  pub decides : SameUsed s t
   decides = record {
     judged = judge-same s t same-head;
     capacity = head-sizes s t (same-head .fields) .0;

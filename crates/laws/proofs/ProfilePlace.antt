@@ -63,7 +63,7 @@ place-first (x ∷ a) (y ∷ b) n =
 
 -- ---- and there is only one such place, and none in a file and itself
 -- it lies in both files, or at the end of one
-differ-low : {a b : List ℕ} {n : ℕ} → DifferAt a b n → (n ≤ length a) × (n ≤ length b)
+pub differ-low : {a b : List ℕ} {n : ℕ} → DifferAt a b n → (n ≤ length a) × (n ≤ length b)
 differ-low (byte l h q) = (omega arith, omega arith)
 differ-low (firstEnds e l) = (omega arith, omega arith)
 differ-low (secondEnds e l) = (omega arith, omega arith)

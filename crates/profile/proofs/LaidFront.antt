@@ -68,7 +68,7 @@ module _ {c size : ℕ} (z : Sizes c size) (m : Map) where
 
     -- ---- the directory
     module _ (same : SameBytes s (layoutAs Kdmv c size m) 0 (512 + 4 * tableCount Kdmv c size)) where
-      named : (d : ℕ) → d < tableCount Kdmv c size → entryAt s 1 d ≡ tablesAt Kdmv c size + 4 * d
+      pub named : (d : ℕ) → d < tableCount Kdmv c size → entryAt s 1 d ≡ tablesAt Kdmv c size + 4 * d
       named d l =
           number-same s (layoutAs Kdmv c size m) (512 * 1 + 4 * d) 4
           (within s (layoutAs Kdmv c size m) 0 _ _ 4 same (omega arith) (omega arith))

@@ -6,3 +6,5 @@ pub mod Stages
 pub mod EntryTurns
 pub mod TableTurns
 pub mod Taking
+pub mod FormFront
+pub mod ProfileDecides
