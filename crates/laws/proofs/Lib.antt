@@ -69,6 +69,7 @@ pub mod MovedImages
 pub mod MovedAnswer
 pub mod ProfilePlace
 pub mod ProfileMet
+pub mod ProfileRefused
 pub mod ProfileImages
 pub mod ProfileOneFile
 pub mod NeverUsedProfile

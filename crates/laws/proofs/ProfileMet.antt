@@ -6,7 +6,7 @@ use mathlib.Core.Logic.{⊎-elim}
 use mathlib.Core.List.{List, _++_}
 use mathlib.Core.Bool.{Bool, true, false, not, true≢false}
 use native.Mathlib.Omega.{arith}
-use lib.Dec.{eqb}
+use lib.Dec.{eqb, lit≤}
 use lib.ListN.{length}
 use borrow.Author.Tests.{eqb-true, eq-eqb}
 use Rattle.base.specs.Pick.{pick}
@@ -24,6 +24,7 @@ use Rattle.format.specs.declared.CheckAnswer.the-variants.{Accepted, Refused}
 use Rattle.format.proofs.Picked.{pick-then, pick-else, passed}
 use Rattle.format.proofs.Passed.{accepted-past}
 use Rattle.laws.specs.Layers.{Layer}
+use Rattle.laws.specs.StillOpen.{SomeAccepted}
 use Rattle.laws.specs.ProfileImages.{Meets, FirstAt}
 use Rattle.laws.proofs.AcceptedImage.{accepted-complete}
 use Rattle.laws.proofs.CheckRefusals.{check-refuses}
@@ -140,23 +141,23 @@ profile-meets s c size e =
     let p = own-sizes s (a .0) (a .1) (a .2) (n .0) (o .0) (z .0) in
     (layer-meets (p .0) (p .1) (same-file s (normalForm s) (f .0)), f .1, f .2 ∙ size-is (p .0))
 
--- ---- 42
--- no check gives it
-was-accepted : (s : List ℕ) (a b : CheckAnswer) (n : ℕ) → check s ≡ a → profileIfAccepted a b ≡ Refused (NotNormal n)
-    → (c : ℕ) × (size : ℕ) × (check s ≡ Accepted c size) × (b ≡ Refused (NotNormal n))
+-- ---- refusals of the profile's own
+-- a number that no check gives
+pub own-refusal : (s : List ℕ) (a b : CheckAnswer) (t : Refusal) → 13 ≤ number t → (number t ≡ 43 → ⊥) → check s ≡ a
+    → profileIfAccepted a b ≡ Refused t → (SomeAccepted s) × (b ≡ Refused t)
 unfolding profileIfAccepted
-was-accepted s (Refused r) b n k e =
-    let q : r ≡ NotNormal n = cc in
-    absurd (⊎-elim (λ l. let z : 42 ≤ 12 = rw q at l in omega arith) (λ l. let z : 42 ≡ 43 = rw q at l in omega arith)
-    (check-refuses s r k))
-was-accepted s (Accepted c size) b n k e = (c, size, k, e)
+own-refusal s (Refused r) b t late gone k e =
+    let q : r ≡ t = cc in
+    absurd (⊎-elim (λ l. let z : number t ≤ 12 = rw q at l in omega arith) (λ l. gone (rw q at l)) (check-refuses s r k))
+own-refusal s (Accepted c size) b t late gone k e = ((c, size, k), e)
 
--- nor does a rule before the form
-rule-past : (b : Bool) (r : Refusal) (y : CheckAnswer) (n : ℕ) → (number r ≡ 42 → ⊥)
-    → pick b (Refused r) y ≡ Refused (NotNormal n) → (b ≡ false) × (y ≡ Refused (NotNormal n))
-rule-past b r y n other e =
-    passed b (Refused r) y (Refused (NotNormal n)) (λ q. let z : r ≡ NotNormal n = cc in other (ap number z)) e
+-- a rule of another number was kept
+pub rule-past : (b : Bool) (r : Refusal) (y : CheckAnswer) (t : Refusal) → (number r ≡ number t → ⊥)
+    → pick b (Refused r) y ≡ Refused t → (b ≡ false) × (y ≡ Refused t)
+rule-past b r y t other e =
+    passed b (Refused r) y (Refused t) (λ q. let z : r ≡ t = cc in other (ap number z)) e
 
+-- ---- 42
 other-form : (b : Bool) (k g m n : ℕ) → pick b (Accepted k g) (Refused (NotNormal m)) ≡ Refused (NotNormal n)
     → (b ≡ false) × (m ≡ n)
 unfolding pick
@@ -169,11 +170,11 @@ pub profile-place : (s : List ℕ) (n : ℕ) → profile s ≡ Refused (NotNorma
     → (Layer (headerOf s .capacity) 128 s) × (headerOf s .capacity % 128 ≡ 0) × (FirstAt s (normalForm s) n)
 unfolding profileFrom profileForm
 profile-place s m e =
-    let a = was-accepted s (check s) _ m refl e in
-    let n = rule-past (notCollapsible (headerOf s)) NotCollapsible _ m (λ q. omega arith) (a .3) in
-    let o = rule-past (stillOpen (headerOf s)) StillOpen _ m (λ q. omega arith) (n .1) in
-    let z = rule-past (profileSizesBroken (headerOf s)) ProfileSizes _ m (λ q. omega arith) (o .1) in
+    let a = own-refusal s (check s) _ (NotNormal m) (lit≤ tt) (λ q. omega arith) refl e in
+    let n = rule-past (notCollapsible (headerOf s)) NotCollapsible _ (NotNormal m) (λ q. omega arith) (a .1) in
+    let o = rule-past (stillOpen (headerOf s)) StillOpen _ (NotNormal m) (λ q. omega arith) (n .1) in
+    let z = rule-past (profileSizesBroken (headerOf s)) ProfileSizes _ (NotNormal m) (λ q. omega arith) (o .1) in
     let f = other-form (sameFile s (normalForm s)) _ _ _ m (z .1) in
-    let p = own-sizes s (a .0) (a .1) (a .2) (n .0) (o .0) (z .0) in
+    let p = own-sizes s (a .0 .0) (a .0 .1) (a .0 .2) (n .0) (o .0) (z .0) in
     let differ : s ≡ normalForm s → ⊥ = λ q. true≢false (sym (file-same s (normalForm s) q) ∙ f .0) in
     (p .0, p .1, rw (f .1) at (place-first s (normalForm s) differ))
