@@ -16,7 +16,7 @@ fn ask(what: u64, lengths: &[u8], bytes: &[u8], out: &mut [u8])
 {
     if what == 0 {
         cases_images::image(bytes);
-        cases_images::normal(bytes, &mut *out);
+        cases_written::normal(bytes, &mut *out);
         return;
     }
     if what == 2 {
@@ -28,19 +28,19 @@ fn ask(what: u64, lengths: &[u8], bytes: &[u8], out: &mut [u8])
         return;
     }
     if what == 6 {
-        cases_images::frame(bytes, out.len());
+        cases_lists::frame(bytes, out.len());
         return;
     }
     if what == 7 {
-        cases_images::survey(bytes, lengths, out.len());
+        cases_lists::survey(bytes, lengths, out.len());
         return;
     }
     if what == 9 {
-        cases_images::check_in(bytes, out.len());
+        cases_lists::check_in(bytes, out.len());
         return;
     }
     if what == 10 {
-        cases_images::mend(bytes, lengths, &mut *out);
+        cases_lists::mend(bytes, lengths, &mut *out);
         return;
     }
     if what == 11 {
@@ -52,7 +52,7 @@ fn ask(what: u64, lengths: &[u8], bytes: &[u8], out: &mut [u8])
         return;
     }
     if what == 13 {
-        cases_images::close(bytes, &mut *out);
+        cases_written::close(bytes, &mut *out);
     }
 }
 

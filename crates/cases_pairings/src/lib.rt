@@ -16,9 +16,9 @@ fn pair(lower: &[u8], upper: &[u8], out: &mut [u8]) -> usize
 
 fn three(a: &[u8], b: &[u8], c: &[u8], x: &mut [u8], out: &mut [u8]) {
     let n = pair(a, b, &mut *x);
-    cases_images::collapse(&x[0..n], c, &mut *out);
+    cases_written::collapse(&x[0..n], c, &mut *out);
     let n = pair(b, c, &mut *x);
-    cases_images::collapse(a, &x[0..n], &mut *out);
+    cases_written::collapse(a, &x[0..n], &mut *out);
 }
 
 // (a b) first
@@ -58,11 +58,11 @@ fn run_layers(
     out: &mut [u8],
 ) {
     if layers == 1 {
-        cases_images::normal(a, &mut *out);
+        cases_written::normal(a, &mut *out);
         return;
     }
     if layers == 2 {
-        cases_images::collapse(a, b, &mut *out);
+        cases_written::collapse(a, b, &mut *out);
         return;
     }
     if layers == 3 {

@@ -1,7 +1,7 @@
 use Prim.Native.Nat.{_≤_, _-_}
 use borrow.Author.Needs.{needs}
-use Rattle.cases_images.proofs.put_words.Statement.{statement}
-use Rattle.cases_images.proofs.put_words.Tie as tie
+use Rattle.cases_lists.proofs.put_words.Statement.{statement}
+use Rattle.cases_lists.proofs.put_words.Tie as tie
 
 abbrev Inv-loop : tie.InvT-loop
 Inv-loop list n i₀ i = i ≤ n
