@@ -2,25 +2,23 @@
 use Prim.Native.Nat.{ℕ, _*_, _≤_}
 use mathlib.Core.Path.{_≡_, sym, _∙_}
 use mathlib.Core.List.{List}
-use mathlib.Core.Bool.{Bool, true, false}
+use mathlib.Core.Bool.{Bool, false}
 use native.Mathlib.Omega.{arith}
 use lib.Dec.{ltb}
 use lib.ListN.{length}
 use borrow.Author.Tests.{ltb-false}
-use Rattle.base.specs.Pick.{pick}
 use Rattle.base.proofs.Steps.{or-no}
 use Rattle.base.proofs.Rounding.{ceil-most}
-use Rattle.base.proofs.SumsBelow.{sum-most}
 use Rattle.format.specs.Geometry.{fileSectors, directoryEntries}
 use Rattle.format.specs.Header.{directoryEntriesOf, judgeStart}
 use Rattle.format.specs.Stream.{overhead, keptGrains}
-use Rattle.format.specs.Tail.{hasGrains, oneIfTable}
 use Rattle.format.specs.Check.{descriptorMisplaced}
 use Rattle.format.specs.Close.{noStream, walkMisplaced, notClosable}
 use Rattle.format.specs.declared.Header.{Header}
 use Rattle.format.specs.declared.HeaderAnswer.the-variants.{Known}
 use Rattle.format.proofs.Geometry.{directory-room}
 use Rattle.format.proofs.HeaderStart.{started, StartSizes, started-sizes}
+use Rattle.format.proofs.TailLengths.{tables-most}
 use Rattle.walk.specs.Walked.{Walkable, Tallied}
 use Rattle.walk.specs.declared.Counted.{Counted}
 use Rattle.tail.specs.TailPut.{Walking}
@@ -60,11 +58,6 @@ module _ (s : List ℕ) (h : Header) where
       )
 
 -- ---- there are few tables
-one-most : (b : Bool) → pick b 1 0 ≤ 1
-unfolding pick
-one-most true = omega arith
-one-most false = omega arith
-
 entries-few : (c size per : ℕ) → 1 ≤ per * size → directoryEntries c per size ≤ c
 unfolding directoryEntries
 entries-few c size per one = ceil-most c (per * size) one
@@ -72,7 +65,7 @@ entries-few c size per one = ceil-most c (per * size) one
 pub tables-few : (s : List ℕ) (h : Header) → Walking s h → (kept : Counted) → Tallied s h kept → kept .tables ≤ 0x80000000
 tables-few s h w kept t =
     let l = keptGrains s h in
-    let most = sum-most (directoryEntriesOf h) (oneIfTable l) (λ d b. one-most (hasGrains l d)) in
+    let most = tables-most l (directoryEntriesOf h) in
     let per : 1 ≤ h .«entries_per_table» * h .«grain_size» =
     rw (w .walkable .table) (omega (arith, w .walkable .sizes .low)) in
     omega (
