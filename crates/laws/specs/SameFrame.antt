@@ -1,6 +1,6 @@
 -- What two images agree in that have the same answers: the bytes of the frame, but for the descriptor's, and, of packed grains,
--- the markers. For the profile the gap of the normal form too.
-use Prim.Native.Nat.{ℕ, _-_, _*_, _<_}
+-- the markers.
+use Prim.Native.Nat.{ℕ, _*_, _<_}
 use mathlib.Core.Path.{_≡_}
 use mathlib.Core.List.{List, [], _∷_, _++_}
 use mathlib.Core.Bool.{true}
@@ -13,9 +13,7 @@ use Rattle.format.specs.Areas.{Area, headerArea, directoryArea, redundantArea, 
 use Rattle.format.specs.Areas.{lastArea}
 use Rattle.format.specs.Frame.{frame}
 use Rattle.format.specs.Chain.{layerAt}
-use Rattle.format.specs.Layout.{tablesEnd, sectorV}
 use Rattle.format.specs.declared.Header.{Header}
-use Rattle.format.specs.declared.Kind.the-variants.{Kdmv}
 use Rattle.format.specs.declared.Entry.the-variants.{Sector}
 use Rattle.format.specs.declared.FrameAnswer.the-variants.{Listed}
 
@@ -46,10 +44,3 @@ pub record SameFrame (s t : List ℕ) : Type 0 where
 pub record SameFrames (s t lengths : List ℕ) : Type 0 where
   pub long : length s ≡ length t
   pub each : (k : ℕ) → k < length lengths → SameFrame (layerAt s lengths k) (layerAt t lengths k)
-
--- the sectors between the tables of the normal form of an image with header h and its first grain, whether or not they lie in
--- the file
-abbrev pub SameGap : List ℕ → List ℕ → Header → Type 0
-SameGap s t h =
-    SameBytes s t (512 * tablesEnd Kdmv (h .capacity) (h .«grain_size»))
-    (512 * (sectorV Kdmv (h .capacity) (h .«grain_size») - tablesEnd Kdmv (h .capacity) (h .«grain_size»)))

@@ -28,7 +28,7 @@ use Rattle.format.specs.declared.HeaderAnswer.the-variants.{Known}
 use Rattle.format.specs.declared.CheckAnswer.{CheckAnswer}
 use Rattle.format.specs.declared.CheckAnswer.the-variants.{Accepted, Refused}
 use Rattle.accept.specs.AcceptedHeader.{acceptedHeader}
-use Rattle.laws.specs.SameFrame.{SameAreas, SameFrame, SameGap}
+use Rattle.laws.specs.SameFrame.{SameAreas, SameFrame}
 use Rattle.laws.specs.ProfileImages.{DifferAt, byte, firstEnds, secondEnds, FirstAt}
 use Rattle.laws.proofs.LayoutNumbers.{some-size, tables-late}
 use Rattle.laws.proofs.LayoutHeader.{laidHeader}
@@ -42,6 +42,7 @@ use Rattle.laws.proofs.ProfilePlace.{first-differs}
 use Rattle.laws.proofs.ProfileMet.{accepted-profile}
 use Rattle.layout.proofs.PartSizes.{directory-fits, entries-before}
 use Rattle.profile.specs.FormCompared.{formOf, compared, Published}
+use Rattle.profile.specs.SameGap.{SameGap}
 use Rattle.profile.proofs.FirstDifference.{longer, same-file}
 use Rattle.profile.proofs.LaidFront.{header-told, named as table-named}
 use Rattle.profile.proofs.LaidGrains.{grains-alike}

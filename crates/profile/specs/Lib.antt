@@ -1,1 +1,2 @@
 pub mod FormCompared
+pub mod SameGap
