@@ -38,11 +38,13 @@ module _ (taken : Taken) (s : List ℕ) where
     unfolding accepted_header
     header_refused r q p = rw (← e, q) p
 
-    pub header_accepted : (c z : ℕ) → a ≡ Accepted c z → w ≡ judge_of taken s → w ≡ accepted_header (check_of taken s) (header_of s)
+    pub header_accepted : (c z : ℕ) → a ≡ Accepted c z → w ≡ judge_of taken s
+        → w ≡ accepted_header (check_of taken s) (header_of s)
     unfolding accepted_header
     header_accepted c z q p = rw (← e, q) (p ∙ (accepted_checked c z (sym e ∙ q)).0)
 
-  known_checked : (a : CheckAnswer) (h : Header) → a ≡ check_of taken s → accepted_header a (header_of s) ≡ Known h → Checked s h
+  known_checked : (a : CheckAnswer) (h : Header) → a ≡ check_of taken s → accepted_header a (header_of s) ≡ Known h
+      → Checked s h
   unfolding accepted_header
   known_checked (Refused r) h e q = let n : ◌≡◌ {A = ℕ} 0 1 = cc in absurd (omega arith)
   known_checked (Accepted c z) h e q =

@@ -6,7 +6,8 @@ use mathlib.Core.Bool.{Bool, true, false}
 use Rattle.base.specs.Pick.{pick}
 use Rattle.base.proofs.Steps.{cond_all}
 use Rattle.format.specs.Areas.{areas, meet}
-use Rattle.format.specs.Check.{misplaced, lowest_misplaced, copies_differ, unless_grain, check_apart, check_copies, check_grains}
+use Rattle.format.specs.Check.{misplaced, lowest_misplaced, copies_differ, unless_grain, check_apart, check_copies}
+use Rattle.format.specs.Check.{check_grains}
 use Rattle.format.specs.Check.{check_layout}
 use Rattle.format.specs.CheckIn.{came_to_marking}
 use Rattle.format.specs.declared.Header.{Header}
@@ -63,13 +64,15 @@ module _ (s : List ℕ) (h : Header) (z : HeaderAnswer) where
     unfolding check_copies
     copies_kept is t q = rule_kept z h (copies_differ s h) r is (check_apart s h) CopiesDiffer t (q ∙ apart_known s h)
 
-    pub places_broken : (p : MisplacedPart) → r ≡ misplaced s h → r ≡ true → p ≡ lowest_misplaced s h → z ≡ unknown (Misplaced p)
+    pub places_broken : (p : MisplacedPart) → r ≡ misplaced s h → r ≡ true → p ≡ lowest_misplaced s h
+        → z ≡ unknown (Misplaced p)
         → z ≡ unmarked_of (check_layout s h) h
     unfolding check_layout came_to_marking
     places_broken p is t low q =
         rw (← low) (rule_broken z h (misplaced s h) r is (check_grains s h) (Misplaced p) refl t q)
 
-    pub places_kept : r ≡ misplaced s h → r ≡ false → z ≡ unmarked_of (check_grains s h) h → z ≡ unmarked_of (check_layout s h) h
+    pub places_kept : r ≡ misplaced s h → r ≡ false → z ≡ unmarked_of (check_grains s h) h
+        → z ≡ unmarked_of (check_layout s h) h
     unfolding check_layout
     places_kept is t q = rule_kept z h (misplaced s h) r is (check_grains s h) _ t q
 

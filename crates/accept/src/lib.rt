@@ -1,4 +1,6 @@
 // The full check: refusals 1 to 12, with 43 after 2, each over the whole image.
+#![tactic(auto)]
+
 ghost use Rattle.std.specs.Prelude.{◌≡◌};
 ghost use Rattle.format.specs.Header.{header_of};
 ghost use Rattle.format.specs.Check.{lowest_bad_marker, unless_grain, check_apart, check_copies, check_grains, check_layout};

@@ -17,7 +17,8 @@ use Rattle.format.specs.Geometry.{file_sectors}
 use Rattle.format.specs.Header.{header_of, judge}
 use Rattle.format.specs.Areas.{areas, meet}
 use Rattle.format.specs.Check.{check_apart, check}
-use Rattle.format.specs.CheckIn.{words_needed, marked_sectors, came_to_marking, check_in_room, with_marked, check_in, list_after_check}
+use Rattle.format.specs.CheckIn.{words_needed, marked_sectors, came_to_marking, check_in_room, with_marked, check_in}
+use Rattle.format.specs.CheckIn.{list_after_check}
 use Rattle.format.specs.declared.Taken.TheVariants.{KdmvAlone}
 use Rattle.format.specs.declared.Header.{Header}
 use Rattle.format.specs.declared.Refusal.{Refusal}

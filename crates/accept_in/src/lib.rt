@@ -1,4 +1,6 @@
 // The full check in a list that the caller lends, one window from sector 0 on: refusals 1 to 12, with 21 before 12.
+#![tactic(auto)]
+
 ghost use Rattle.std.specs.Prelude.{◌≡◌, length};
 ghost use Rattle.format.specs.Areas.{areas};
 ghost use Rattle.format.specs.CheckIn.{words_needed, check_in, list_after_check};
@@ -17,7 +19,7 @@ fn words_needed(image: &[u8]) -> usize
 }
 
 // Whether two areas meet, and how many sectors were marked before that.
-#[derive(Drop)]
+#[derive(Clone, Copy)]
 struct Marks {
     met: bool,
     marked: u64,

@@ -1,4 +1,6 @@
 // The first byte in which a lent slice differs from what is to stand there.
+#![tactic(auto)]
+
 ghost use Rattle.std.specs.Prelude.{◌+◌, ◌≤◌, length};
 ghost use Rattle.base.specs.Numbers.{le_bytes};
 ghost use Rattle.base.specs.Bytes.{zeros};

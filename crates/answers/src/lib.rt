@@ -1,4 +1,6 @@
 // Answers in document 01's numbers, for whoever prints them or hands them on.
+#![tactic(auto)]
+
 ghost use Rattle.std.specs.Prelude.{◌≡◌};
 ghost use Rattle.format.specs.Answers.{number, part_number, place, header_numbers, verdict, marked_numbers, served, unserved};
 ghost use Rattle.format.specs.Answers.{located, chained, written, framed, surveyed};
@@ -26,7 +28,7 @@ fn part_number(part: MisplacedPart) -> u64
 }
 
 // A refusal's number and place.
-#[derive(Drop)]
+#[derive(Clone, Copy)]
 struct Numbers(u64, u64);
 
 fn numbers_of(refusal: Refusal) -> Numbers
@@ -61,7 +63,15 @@ fn numbers_of(refusal: Refusal) -> Numbers
 }
 
 fn answer(layer: u64, kind: u64, sector: u64, size: u64, offset: u64) -> Located
-    ensures { result ≡ record { number = 0; layer = layer; place = 0; kind = kind; sector = sector; size = size; offset = offset } }
+    ensures { result ≡ record {
+      number = 0;
+      layer = layer;
+      place = 0;
+      kind = kind;
+      sector = sector;
+      size = size;
+      offset = offset;
+    } }
 {
     Located {
         number: 0,

@@ -1,4 +1,6 @@
 // Whether what entries name stands in ascending order, in one pass over the entries.
+#![tactic(auto)]
+
 ghost use Rattle.std.specs.Prelude.{◌≡◌, false, ◌+◌, ◌*◌, ◌^◌, ◌≤◌, ◌<◌, min, length};
 ghost use Rattle.base.specs.Rows.{rows};
 ghost use Rattle.format.specs.Geometry.{file_sectors};
@@ -14,7 +16,7 @@ use named::least_sector;
 use sizes::entries_in_use;
 
 // From the lowest start of some areas to the end of the last. It falls where one began before the end of the one before it.
-#[derive(Drop)]
+#[derive(Clone, Copy)]
 pub struct Stretch {
     pub first: u64,
     pub end: u64,

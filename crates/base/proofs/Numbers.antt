@@ -39,7 +39,13 @@ pub read_low : {s : List ℕ} {at : ℕ} (n v : ℕ) → Stands s at (le_bytes n
 unfolding le_at le_bytes
 read_low zero v h = sym (rw pow-zero (mod-one v))
 read_low {s} {at} (suc n) v h =
-    rw (head_of h, read_low n (v / 256) (tail_of h), pow-suc, mod-mul v (one-le-pow n 256 (lit< tt)) (lit< tt)) (omega arith)
+    rw (
+      head_of h,
+      read_low {at = at + 1} n (v / 256) (tail_of h),
+      pow-suc,
+      mod-mul v (one-le-pow n 256 (lit< tt))
+          (lit< tt),
+    ) (omega arith)
 
 pub read_number : {s : List ℕ} {at : ℕ} (n v : ℕ) → Stands s at (le_bytes n v) → v < 256 ^ n → le_at s at n ≡ v
 read_number n v h b = read_low n v h ∙ mod-eq_of_lt b

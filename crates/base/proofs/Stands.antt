@@ -73,5 +73,6 @@ pub bytes_stand : (s : List ℕ) (at : ℕ) (w : List ℕ) → at + length w ≤
 bytes_stand s at w h e =
     record {
       inside = h;
-      same = λ i l. sym (get_or-drop at s i 0) ∙ sym (get_or-take (length w) (drop at s) i 0 l) ∙ ap (λ (v : List ℕ). get_or v i 0) e;
+      same = λ i l. sym (get_or-drop at s i 0) ∙ sym (get_or-take (length w) (drop at s) i 0 l)
+          ∙ ap (λ (v : List ℕ). get_or v i 0) e;
     }

@@ -73,7 +73,7 @@ word_long (x ∷ w) (y ∷ v) n = rw (← word_long w v (λ e. n (ap suc e)), an
 pub read_same : {s : List ℕ} {at : ℕ} (w : List ℕ) → Stands s at w → same_at s at w ≡ true
 unfolding same_at
 read_same [] h = refl
-read_same (x ∷ w) h = rw (eq-eqb _ _ (head_of h), read_same w (tail_of h))
+read_same {s} {at} (x ∷ w) h = rw (eq-eqb _ _ (head_of h), read_same {at = at + 1} w (tail_of h))
 
 pub same_stands : (s : List ℕ) (at : ℕ) (w : List ℕ) → at + length w ≤ length s → same_at s at w ≡ true → Stands s at w
 unfolding same_at

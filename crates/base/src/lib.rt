@@ -1,4 +1,6 @@
 // Bytes: numbers and fixed strings in lent slices, and parts of them written. What every other crate stands on.
+#![tactic(auto)]
+
 ghost use Rattle.std.specs.Prelude.{◌≡◌, ◌+◌, ◌≤◌, ◌<◌, ltb, eqb, length, take};
 ghost use Rattle.base.specs.Rounding.{ceil};
 ghost use Rattle.base.specs.Numbers.{le_at, le_bytes};

@@ -1,4 +1,6 @@
 // Entries of tables sixteen at a time: whether two tables differ there, and blocks of zeros passed over.
+#![tactic(auto)]
+
 ghost use Rattle.std.specs.Prelude.{◌≡◌, ◌+◌, ◌-◌, ◌*◌, ◌≤◌, ◌<◌, min, length};
 ghost use Rattle.format.specs.Entries.{entry_at};
 ghost use Rattle.blocks.specs.Blocks.{any_from, differs_at, named_at, Passed};

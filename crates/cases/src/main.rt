@@ -6,92 +6,95 @@
 // the grain reader alone; 6 the frame; 7 the survey; 8 the lookup in a disk of several files, whose text the first length has;
 // 9 the check in a lent list; 10 mending, whose good side and room for words are the lengths; 11 both moves; 12 the profile;
 // 13 closing; 14 the lookup's steps. The room is the length of the output, of the list or of the copy that is mended.
+#![tactic(auto)]
+
 ghost use Rattle.std.specs.Prelude.{◌≤◌, ◌<◌, length};
 
-use libc::STDIN_FILENO;
+use std::io;
+use std::io::Read;
 
 // What is asked of a case once.
-fn ask(what: u64, lengths: &[u8], bytes: &[u8], out: &mut [u8])
+fn ask(rt: &impl Print, what: u64, lengths: &[u8], bytes: &[u8], out: &mut [u8]) -> io::Result<()>
     requires { length lengths.now ≤ 136 }
 {
     if what == 0 {
-        cases_images::image(bytes);
-        cases_written::normal(bytes, &mut *out);
-        return;
+        cases_images::image(rt, bytes)?;
+        return cases_written::normal(rt, bytes, &mut *out);
     }
     if what == 2 {
-        cases_pairings::pairings(bytes, lengths, &mut *out);
-        return;
+        return cases_pairings::pairings(rt, bytes, lengths, &mut *out);
     }
     if what == 3 {
-        cases_texts::text(bytes);
-        return;
+        return cases_texts::text(rt, bytes);
     }
     if what == 6 {
-        cases_lists::frame(bytes, out.len());
-        return;
+        return cases_lists::frame(rt, bytes, out.len());
     }
     if what == 7 {
-        cases_lists::survey(bytes, lengths, out.len());
-        return;
+        return cases_lists::survey(rt, bytes, lengths, out.len());
     }
     if what == 9 {
-        cases_lists::check_in(bytes, out.len());
-        return;
+        return cases_lists::check_in(rt, bytes, out.len());
     }
     if what == 10 {
-        cases_lists::mend(bytes, lengths, &mut *out);
-        return;
+        return cases_lists::mend(rt, bytes, lengths, &mut *out);
     }
     if what == 11 {
-        cases_images::moves(bytes, &mut *out);
-        return;
+        return cases_images::moves(rt, bytes, &mut *out);
     }
     if what == 12 {
-        cases_images::profile(bytes);
-        return;
+        return cases_images::profile(rt, bytes);
     }
     if what == 13 {
-        cases_written::close(bytes, &mut *out);
+        cases_written::close(rt, bytes, &mut *out)?;
     }
+    Ok(())
 }
 
 // What is asked for one of its sectors.
-fn ask_sector(what: u64, lengths: &[u8], bytes: &[u8], sector: u64)
+fn ask_sector(
+    rt: &impl Print,
+    what: u64,
+    lengths: &[u8],
+    bytes: &[u8],
+    sector: u64,
+) -> io::Result<()>
     requires { length lengths.now ≤ 136 }
 {
     if what == 1 {
-        cases_images::look_down(bytes, lengths, sector);
-        return;
+        return cases_images::look_down(rt, bytes, lengths, sector);
     }
     if what == 3 {
-        cases_texts::find_in_text(bytes, sector);
-        return;
+        return cases_texts::find_in_text(rt, bytes, sector);
     }
     if what == 4 {
-        cases_texts::find(bytes, sector);
-        return;
+        return cases_texts::find(rt, bytes, sector);
     }
     if what == 8 {
-        cases_disks::look(bytes, lengths, sector);
-        return;
+        return cases_disks::look(rt, bytes, lengths, sector);
     }
     if what == 14 {
-        cases_images::steps(bytes, sector);
-        return;
+        return cases_images::steps(rt, bytes, sector);
     }
-    cases_images::look(bytes, sector);
+    cases_images::look(rt, bytes, sector)
 }
 
-fn ask_sectors(what: u64, lengths: &[u8], bytes: &[u8], sectors: &[u8])
+fn ask_sectors(
+    rt: &impl Print,
+    what: u64,
+    lengths: &[u8],
+    bytes: &[u8],
+    sectors: &[u8],
+) -> io::Result<()>
     requires { length lengths.now ≤ 136 }
 {
     let n = sectors.len() / 8;
     let mut i = 0;
     while i < n {
-        ask_sector(what, lengths, bytes, base::u64_at(sectors, 8 * i));
+        ask_sector(rt, what, lengths, bytes, base::u64_at(sectors, 8 * i))?;
         i += 1;
     }
+    Ok(())
 }
 
 // Number k of a case, none where it is too large for one.
@@ -107,14 +110,15 @@ fn number_at(head: &[u8], k: usize, most: u64) -> usize
 }
 
 // What follows a case's five numbers.
-fn read_body(head: &[u8], body: &mut [u8])
+fn read_body<I: Read>(input: &mut I, head: &[u8], body: &mut [u8]) -> io::Result<()>
     requires { (40 ≤ length head.now) × (295048 ≤ length body.old) }
 {
     let n = 8 * number_at(head, 1, 4096) + 8 * number_at(head, 2, 17) + number_at(head, 3, 262144);
-    io::read_full(STDIN_FILENO, &mut body[0..n]);
+    programs::read_full(input, &mut body[0..n])?;
+    Ok(())
 }
 
-fn run_case(head: &[u8], body: &[u8], out: &mut [u8])
+fn run_case(rt: &impl Print, head: &[u8], body: &[u8], out: &mut [u8]) -> io::Result<()>
     requires { (40 ≤ length head.now) × (295048 ≤ length body.now) × (65536 ≤ length out.old) }
 {
     let first = 8 * number_at(head, 1, 4096);
@@ -124,34 +128,42 @@ fn run_case(head: &[u8], body: &[u8], out: &mut [u8])
     let what = base::u64_at(head, 0);
     let lengths = &body[first..second];
     let bytes = &body[second..end];
-    ask(what, lengths, bytes, &mut out[0..room]);
-    ask_sectors(what, lengths, bytes, &body[0..first]);
+    ask(rt, what, lengths, bytes, &mut out[0..room])?;
+    ask_sectors(rt, what, lengths, bytes, &body[0..first])
 }
 
 // Whether there was a case.
-fn next_case(head: &mut [u8], body: &mut [u8], out: &mut [u8]) -> bool
+fn next_case<I: Read>(
+    rt: &impl Print,
+    input: &mut I,
+    head: &mut [u8],
+    body: &mut [u8],
+    out: &mut [u8],
+) -> io::Result<bool>
     requires { (40 ≤ length head.old) × (295048 ≤ length body.old) × (65536 ≤ length out.old) }
 {
-    let got = io::read_full(STDIN_FILENO, &mut *head);
+    let got = programs::read_full(input, &mut *head)?;
     if got < 40 {
-        return false;
+        return Ok(false);
     }
-    read_body(head, &mut *body);
-    run_case(head, body, &mut *out);
-    true
+    read_body(input, head, &mut *body)?;
+    run_case(rt, head, body, &mut *out)?;
+    Ok(true)
 }
 
 // At most 65,536 cases, so that it ends.
-fn main() {
+fn main(rt: HostRuntime) -> io::Result<()> {
+    let mut input = rt.reader();
     let mut head = [0u8; 40];
     let mut body = [0u8; 295048];
     let mut out = [0u8; 65536];
     let mut left: u64 = 65536;
     while 0 < left {
-        if next_case(&mut head, &mut body, &mut out) {
+        if next_case(&rt, &mut input, &mut head, &mut body, &mut out)? {
             left -= 1;
         } else {
-            return;
+            return Ok(());
         }
     }
+    Ok(())
 }

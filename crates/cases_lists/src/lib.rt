@@ -1,25 +1,30 @@
 // The calls on one image that take a list, and the survey, each told in a line.
+#![tactic(auto)]
+
 ghost use Rattle.std.specs.Prelude.{◌≤◌, length};
 
+use std::io;
+
 // Each word of a list after the other.
-fn put_words(list: &[u64]) {
+fn put_words(rt: &impl Print, list: &[u64]) -> io::Result<()> {
     let n = list.len();
     let mut i = 0;
     while i < n {
-        programs::put(list[i]);
+        programs::put(rt, list[i])?;
         i += 1;
     }
+    Ok(())
 }
 
 // Number, place, count, and the words of the list.
-fn frame_in(image: &[u8], list: &mut [u64]) {
+fn frame_in(rt: &impl Print, image: &[u8], list: &mut [u64]) -> io::Result<()> {
     let told = answers::framed_of(frame::frame(image, &mut *list));
-    programs::start(b"frame ");
-    programs::put(told.number);
-    programs::put(told.place);
-    programs::put(told.count);
-    put_words(list);
-    programs::end();
+    programs::start(rt, b"frame ")?;
+    programs::put(rt, told.number)?;
+    programs::put(rt, told.place)?;
+    programs::put(rt, told.count)?;
+    put_words(rt, list)?;
+    programs::end(rt)
 }
 
 fn at_most(most: usize, n: usize) -> usize
@@ -32,30 +37,30 @@ fn at_most(most: usize, n: usize) -> usize
 }
 
 // The words hold 170 before the call: it shows which were not written.
-pub fn frame(image: &[u8], room: usize) {
+pub fn frame(rt: &impl Print, image: &[u8], room: usize) -> io::Result<()> {
     let n = at_most(96, room);
     let mut words = [170u64; 96];
-    frame_in(image, &mut words[0..n]);
+    frame_in(rt, image, &mut words[0..n])
 }
 
 // Number, place, capacity, grain size, the sectors marked, and the words of the list.
-fn check_in_list(image: &[u8], list: &mut [u64]) {
+fn check_in_list(rt: &impl Print, image: &[u8], list: &mut [u64]) -> io::Result<()> {
     let told = answers::marked_of(accept_in::check_in(image, &mut *list));
-    programs::start(b"check_in ");
-    programs::put(told.number);
-    programs::put(told.place);
-    programs::put(told.capacity);
-    programs::put(told.grain_size);
-    programs::put(told.marked);
-    put_words(list);
-    programs::end();
+    programs::start(rt, b"check_in ")?;
+    programs::put(rt, told.number)?;
+    programs::put(rt, told.place)?;
+    programs::put(rt, told.capacity)?;
+    programs::put(rt, told.grain_size)?;
+    programs::put(rt, told.marked)?;
+    put_words(rt, list)?;
+    programs::end(rt)
 }
 
 // Each word holds 170 before the call: old bits must not count.
-pub fn check_in(image: &[u8], room: usize) {
+pub fn check_in(rt: &impl Print, image: &[u8], room: usize) -> io::Result<()> {
     let n = at_most(96, room);
     let mut words = [170u64; 96];
-    check_in_list(image, &mut words[0..n]);
+    check_in_list(rt, image, &mut words[0..n])
 }
 
 // The first n bytes of one over the other's.
@@ -70,20 +75,20 @@ fn copy(from: &[u8], to: &mut [u8], n: usize)
 }
 
 // Number, place, count, the digest of the image after the call, and the words of the list.
-fn mend_in(image: &mut [u8], good: u64, list: &mut [u64]) {
+fn mend_in(rt: &impl Print, image: &mut [u8], good: u64, list: &mut [u64]) -> io::Result<()> {
     let side = answers::repairs::side_of(good);
     let told = answers::repairs::mended_of(mend::mend(&mut *image, side, &mut *list));
-    programs::start(b"mend ");
-    programs::put(told.number);
-    programs::put(told.place);
-    programs::put(told.count);
-    programs::put(programs::digest(image));
-    put_words(list);
-    programs::end();
+    programs::start(rt, b"mend ")?;
+    programs::put(rt, told.number)?;
+    programs::put(rt, told.place)?;
+    programs::put(rt, told.count)?;
+    programs::put(rt, programs::digest(image))?;
+    put_words(rt, list)?;
+    programs::end(rt)
 }
 
 // The first of the lengths names the good side, the second is the list's room; each word holds 170 before the call.
-pub fn mend(image: &[u8], lengths: &[u8], out: &mut [u8])
+pub fn mend(rt: &impl Print, image: &[u8], lengths: &[u8], out: &mut [u8]) -> io::Result<()>
     requires { length lengths.now ≤ 136 }
 {
     let numbers = programs::numbers_of(lengths);
@@ -91,28 +96,34 @@ pub fn mend(image: &[u8], lengths: &[u8], out: &mut [u8])
     let mut words = [170u64; 96];
     let long = at_most(image.len(), out.len());
     copy(image, &mut *out, long);
-    mend_in(&mut out[0..long], numbers[0], &mut words[0..n]);
+    mend_in(rt, &mut out[0..long], numbers[0], &mut words[0..n])
 }
 
 // Number, place and totals, and the words of both lists.
-fn survey_in(images: &[u8], lengths: &[u64], rows: &mut [u64], tally: &mut [u64]) {
+fn survey_in(
+    rt: &impl Print,
+    images: &[u8],
+    lengths: &[u64],
+    rows: &mut [u64],
+    tally: &mut [u64],
+) -> io::Result<()> {
     let told = answers::surveyed_of(survey::survey(images, lengths, &mut *rows, &mut *tally));
-    programs::start(b"survey ");
-    programs::put(told.number);
-    programs::put(told.place);
-    programs::put(told.stored);
-    programs::put(told.zero);
-    programs::put(told.absent);
-    programs::put(told.packed);
-    put_words(rows);
-    programs::end();
-    programs::start(b"tally ");
-    put_words(tally);
-    programs::end();
+    programs::start(rt, b"survey ")?;
+    programs::put(rt, told.number)?;
+    programs::put(rt, told.place)?;
+    programs::put(rt, told.stored)?;
+    programs::put(rt, told.zero)?;
+    programs::put(rt, told.absent)?;
+    programs::put(rt, told.packed)?;
+    put_words(rt, rows)?;
+    programs::end(rt)?;
+    programs::start(rt, b"tally ")?;
+    put_words(rt, tally)?;
+    programs::end(rt)
 }
 
 // Both lists hold 170 in each word before the call. A room of 1,000 more is one with a tally that is a word too short.
-pub fn survey(images: &[u8], lengths: &[u8], room: usize)
+pub fn survey(rt: &impl Print, images: &[u8], lengths: &[u8], room: usize) -> io::Result<()>
     requires { length lengths.now ≤ 136 }
 {
     let numbers = programs::numbers_of(lengths);
@@ -122,9 +133,14 @@ pub fn survey(images: &[u8], lengths: &[u8], room: usize)
     let mut tally = [170u64; 66];
     if room < 1000 {
         let most = at_most(128, room);
-        survey_in(images, &all[0..n], &mut rows[0..most], &mut tally);
-        return;
+        return survey_in(rt, images, &all[0..n], &mut rows[0..most], &mut tally);
     }
     let left = at_most(128, room - 1000);
-    survey_in(images, &all[0..n], &mut rows[0..left], &mut tally[0..62]);
+    survey_in(
+        rt,
+        images,
+        &all[0..n],
+        &mut rows[0..left],
+        &mut tally[0..62],
+    )
 }

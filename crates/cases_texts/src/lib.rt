@@ -1,42 +1,45 @@
 // The descriptor's two calls, told in lines.
+#![tactic(auto)]
+
 ghost use Rattle.std.specs.Prelude.{◌+◌, ◌≤◌, length};
 
 use descriptor::{Described, Extent, Found, Parsed};
+use std::io;
 
 // Number, place, extents, version, CID, parentCID, createType's place and length.
-fn put_described(a: Described) {
-    programs::start(b"descriptor ");
-    programs::put(a.number);
-    programs::put(a.place);
-    programs::put(a.extents);
-    programs::put(a.version);
-    programs::put(a.cid);
-    programs::put(a.parent_cid);
-    programs::put(a.type_at);
-    programs::put(a.type_length);
-    programs::end();
+fn put_described(rt: &impl Print, a: Described) -> io::Result<()> {
+    programs::start(rt, b"descriptor ")?;
+    programs::put(rt, a.number)?;
+    programs::put(rt, a.place)?;
+    programs::put(rt, a.extents)?;
+    programs::put(rt, a.version)?;
+    programs::put(rt, a.cid)?;
+    programs::put(rt, a.parent_cid)?;
+    programs::put(rt, a.type_at)?;
+    programs::put(rt, a.type_length)?;
+    programs::end(rt)
 }
 
 // First sector, sectors, access, kind, the name's place and length, offset.
-fn put_record(e: Extent) {
-    programs::start(b"record ");
-    programs::put(e.first);
-    programs::put(e.sectors);
-    programs::put(e.access);
-    programs::put(e.kind);
-    programs::put(e.name_at);
-    programs::put(e.name_length);
-    programs::put(e.offset);
-    programs::end();
+fn put_record(rt: &impl Print, e: Extent) -> io::Result<()> {
+    programs::start(rt, b"record ")?;
+    programs::put(rt, e.first)?;
+    programs::put(rt, e.sectors)?;
+    programs::put(rt, e.access)?;
+    programs::put(rt, e.kind)?;
+    programs::put(rt, e.name_at)?;
+    programs::put(rt, e.name_length)?;
+    programs::put(rt, e.offset)?;
+    programs::end(rt)
 }
 
 // Number, place, extent.
-fn put_found(f: Found) {
-    programs::start(b"find ");
-    programs::put(f.number);
-    programs::put(f.place);
-    programs::put(f.extent);
-    programs::end();
+fn put_found(rt: &impl Print, f: Found) -> io::Result<()> {
+    programs::start(rt, b"find ")?;
+    programs::put(rt, f.number)?;
+    programs::put(rt, f.place)?;
+    programs::put(rt, f.extent)?;
+    programs::end(rt)
 }
 
 // What a lent record holds before a call: it shows which were not stored to.
@@ -52,15 +55,16 @@ fn held() -> Extent {
     }
 }
 
-fn put_records(p: Parsed) {
+fn put_records(rt: &impl Print, p: Parsed) -> io::Result<()> {
     let mut i = 0;
     while i < 32 {
         if p.count <= i {
-            return;
+            return Ok(());
         }
-        put_record(p.records[i]);
+        put_record(rt, p.records[i])?;
         i += 1;
     }
+    Ok(())
 }
 
 fn record_at(bytes: &[u8], at: usize) -> Extent
@@ -90,29 +94,30 @@ fn records_of(bytes: &[u8]) -> [Extent; 32]
 }
 
 // The search in a list of 32 records.
-pub fn find(bytes: &[u8], sector: u64) {
+pub fn find(rt: &impl Print, bytes: &[u8], sector: u64) -> io::Result<()> {
     if bytes.len() < 1792 {
-        return;
+        return Ok(());
     }
-    put_found(lent::found(records_of(bytes), sector));
+    put_found(rt, lent::found(records_of(bytes), sector))
 }
 
 // The answer for a lent list of four records, the four after it, and all records.
-pub fn text(text: &[u8]) {
+pub fn text(rt: &impl Print, text: &[u8]) -> io::Result<()> {
     let lent = lent::described(text, [held(); 4]);
-    put_described(lent.answer);
-    put_record(lent.list[0]);
-    put_record(lent.list[1]);
-    put_record(lent.list[2]);
-    put_record(lent.list[3]);
-    put_records(text::parse(text));
+    put_described(rt, lent.answer)?;
+    put_record(rt, lent.list[0])?;
+    put_record(rt, lent.list[1])?;
+    put_record(rt, lent.list[2])?;
+    put_record(rt, lent.list[3])?;
+    put_records(rt, text::parse(text))
 }
 
 // The search in a text's records, if there are any: those past the last have no sectors.
-pub fn find_in_text(text: &[u8], sector: u64) {
+pub fn find_in_text(rt: &impl Print, text: &[u8], sector: u64) -> io::Result<()> {
     let p = text::parse(text);
     if 0 < p.count {
         let records = p.records;
-        put_found(lent::found(records, sector));
+        put_found(rt, lent::found(records, sector))?;
     }
+    Ok(())
 }

@@ -1,5 +1,8 @@
 // The calls that write over an output, each told in a line.
+#![tactic(auto)]
+
 use format::CollapseAnswer;
+use std::io;
 
 // What an output holds before a call: it shows which bytes were not written.
 pub fn fill(out: &mut [u8]) {
@@ -12,39 +15,39 @@ pub fn fill(out: &mut [u8]) {
 }
 
 // Number, place, length, and the digest of the whole output.
-pub fn put_answer(a: CollapseAnswer, out: &[u8]) {
+pub fn put_answer(rt: &impl Print, a: CollapseAnswer, out: &[u8]) -> io::Result<()> {
     let w = answers::written_of(a);
-    programs::put(w.number);
-    programs::put(w.place);
-    programs::put(w.length);
-    programs::put(programs::digest(out));
-    programs::end();
+    programs::put(rt, w.number)?;
+    programs::put(rt, w.place)?;
+    programs::put(rt, w.length)?;
+    programs::put(rt, programs::digest(out))?;
+    programs::end(rt)
 }
 
-pub fn normal(image: &[u8], out: &mut [u8]) {
-    programs::start(b"normal ");
+pub fn normal(rt: &impl Print, image: &[u8], out: &mut [u8]) -> io::Result<()> {
+    programs::start(rt, b"normal ")?;
     fill(&mut *out);
     let a = collapse::normal(image, &mut *out);
-    put_answer(a, out);
+    put_answer(rt, a, out)
 }
 
-pub fn collapse(lower: &[u8], upper: &[u8], out: &mut [u8]) {
-    programs::start(b"collapse ");
+pub fn collapse(rt: &impl Print, lower: &[u8], upper: &[u8], out: &mut [u8]) -> io::Result<()> {
+    programs::start(rt, b"collapse ")?;
     fill(&mut *out);
     let a = collapse::collapse(lower, upper, &mut *out);
-    put_answer(a, out);
+    put_answer(rt, a, out)
 }
 
 // Number, place, kept sectors and grains, the tail's length, and the digest of the whole output.
-pub fn close(image: &[u8], out: &mut [u8]) {
-    programs::start(b"close ");
+pub fn close(rt: &impl Print, image: &[u8], out: &mut [u8]) -> io::Result<()> {
+    programs::start(rt, b"close ")?;
     fill(&mut *out);
     let told = answers::repairs::closed_of(close::close(image, &mut *out));
-    programs::put(told.number);
-    programs::put(told.place);
-    programs::put(told.sectors);
-    programs::put(told.grains);
-    programs::put(told.length);
-    programs::put(programs::digest(out));
-    programs::end();
+    programs::put(rt, told.number)?;
+    programs::put(rt, told.place)?;
+    programs::put(rt, told.sectors)?;
+    programs::put(rt, told.grains)?;
+    programs::put(rt, told.length)?;
+    programs::put(rt, programs::digest(out))?;
+    programs::end(rt)
 }

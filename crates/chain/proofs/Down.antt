@@ -120,7 +120,8 @@ module _ (s l : List ℕ) (x n k : ℕ) (w : walk_down s l x n ≡ walk_down s l
   unfolding walk_down
   walk_last m q = w ∙ rw q
 
-  walk_next : 0 < k → walk_down s l x n ≡ unless_absent (k - 1) (sector_lookup (layer_at s l (k - 1)) x) (walk_down s l x (k - 1))
+  walk_next : 0 < k → walk_down s l x n ≡ unless_absent (k - 1) (sector_lookup (layer_at s l (k - 1)) x)
+      (walk_down s l x (k - 1))
   walk_next h = walk_last (k - 1) (omega arith)
 
   pub walk_answer : (st : Step) (a : ChainAnswer) → 0 < k → st ≡ step_of (k - 1) (sector_lookup (layer_at s l (k - 1)) x) → st

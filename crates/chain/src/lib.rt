@@ -1,4 +1,6 @@
 // The chain lookup: layers end to end in one lent slice, base first, and a lent list of their lengths.
+#![tactic(auto)]
+
 ghost use Rattle.std.specs.Prelude.{◌≡◌, ◌+◌, length};
 ghost use Rattle.format.specs.Header.{header_of, judge};
 ghost use Rattle.format.specs.Entries.{any_below};
@@ -11,7 +13,7 @@ use format::{ChainAnswer, Header, HeaderAnswer, LayerSource, LookupAnswer, Refus
 use lengths::lengths_broken;
 
 // Whether the layer below is asked, or this is the answer.
-#[derive(Drop)]
+#[derive(Clone, Copy)]
 pub enum Step {
     Below,
     Answer(ChainAnswer),

@@ -91,7 +91,8 @@ module _ (s : List ℕ) (n : ℕ) (a b : Entry) (t u : ℕ) (e : a ≡ Sector t)
   tables_differ_lem p = rw (e, q) p
 
   module _ (first at : ℕ) (d : List ℕ) where
-    pub tables_room : at + length (changes_in s first n a b) ≤ length d → at + length (rows n (change_in s first t u)) ≤ length d
+    pub tables_room : at + length (changes_in s first n a b) ≤ length d
+        → at + length (rows n (change_in s first t u)) ≤ length d
     unfolding change_of
     tables_room room = rw (e, q) at room
 

@@ -1,4 +1,6 @@
 // The changes that mending makes: counted, and put into a lent list of words, three words a change.
+#![tactic(auto)]
+
 ghost use Rattle.std.specs.Prelude.{◌≡◌, [], ◌∷◌, ℕ, ◌+◌, ◌-◌, ◌*◌, ◌≤◌, ◌<◌, length};
 ghost use Rattle.base.specs.Bytes.{over};
 ghost use Rattle.base.specs.Rows.{rows};

@@ -1,4 +1,6 @@
 // Closing a download that broke off: the tail for what is kept of it, into lent output.
+#![tactic(auto)]
+
 ghost use Rattle.std.specs.Prelude.{◌≡◌, ◌||◌, ltb, ◌*◌, ◌≤◌, length};
 ghost use Rattle.format.specs.Geometry.{file_sectors};
 ghost use Rattle.format.specs.Header.{directory_entries_of, judge_start};

@@ -42,7 +42,8 @@ module _ (s : List ℕ) (h : Header) where
           let r = none_lowest (grain_past s h) (grains_of h) c.filed.none g l in
           omega (arith, named_in (file_sectors s) (grain_sectors s h.packed h.grain_size) e (rw q at r), whole plain e)
 
-pub layers_of_lem : {a b c : Bool} (lower : List ℕ) (h : Header) (upper : List ℕ) (k : Header) → Checked lower h → Checked upper k
+pub layers_of_lem : {a b c : Bool} (lower : List ℕ) (h : Header) (upper : List ℕ) (k : Header) → Checked lower h
+    → Checked upper k
     → a ≡ not_collapsible h → b ≡ not_collapsible k → (a || b) ≡ false → c ≡ unlike h k → c ≡ false → Layers lower h upper k
 layers_of_lem {a} {b} lower h upper k p q e f n i j =
     let o = or_no a b n in

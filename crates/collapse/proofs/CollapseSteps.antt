@@ -92,7 +92,8 @@ module _ {a b : Bool} (h k : Header) (m : Map) (room : ℕ) (image d : List ℕ)
     not_alike t = refused _ image d LayersDiffer (skip _ _ _ both n (stop _ _ _ i t refl))
 
     pub then_alike : c ≡ false → {r : CollapseAnswer} {x : List ℕ}
-        → Answered (pick (still_open h || still_open k) (Refused StillOpen) (written_if_room room (laid_length h m))) image d r x
+        → Answered (pick (still_open h || still_open k) (Refused StillOpen) (written_if_room room (laid_length h m))) image
+        d r x
         → Answered (collapse_from h k m room) image d r x
     unfolding collapse_from
     then_alike j p = as_well (sym (skip _ _ _ both n (skip _ _ _ i j refl))) p

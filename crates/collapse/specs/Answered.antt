@@ -7,7 +7,8 @@ use Rattle.format.specs.declared.CollapseAnswer.{CollapseAnswer}
 
 -- collapse of two accepted images
 abbrev pub collapse_accepted : List ℕ → List ℕ → ℕ → CollapseAnswer
-collapse_accepted lower upper room = collapse_from (header_of lower) (header_of upper) (merge (map_of lower) (map_of upper)) room
+collapse_accepted lower upper room = collapse_from (header_of lower) (header_of upper) (merge (map_of lower) (map_of upper))
+    room
 
 -- the answer is r, and the output that held `before` holds `after`: the image where it was written, else what it held
 pub record Answered (answer : CollapseAnswer) (image before : List ℕ) (r : CollapseAnswer) (after : List ℕ) : Type 0 where

@@ -1,8 +1,11 @@
 // Collapse of a lower and an upper image, and the normal form of one, into lent output.
+#![tactic(auto)]
+
 ghost use Rattle.std.specs.Prelude.{◌≡◌, ◌||◌, length};
 ghost use Rattle.base.specs.Pick.{pick};
 ghost use Rattle.format.specs.Check.{check};
-ghost use Rattle.format.specs.Collapse.{collapsed, if_accepted, not_collapsible, still_open, written_if_room, normal, normal_output};
+ghost use Rattle.format.specs.Collapse.{collapsed, if_accepted, not_collapsible, still_open, written_if_room, normal};
+ghost use Rattle.format.specs.Collapse.{normal_output};
 ghost use Rattle.format.specs.Collapse.{collapse_from, collapse, collapse_output};
 ghost use Rattle.format.specs.declared.Kind.TheVariants.{Kdmv};
 ghost use Rattle.format.specs.declared.Refusal.TheVariants.{StillOpen};

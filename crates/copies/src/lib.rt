@@ -1,4 +1,6 @@
 // Refusal 11: the redundant directory and its tables against the primary ones.
+#![tactic(auto)]
+
 ghost use Rattle.std.specs.Prelude.{◌≡◌, false, not, ℕ, ◌+◌, ◌-◌, ◌*◌, ◌≤◌, ◌<◌, min, eqb, length};
 ghost use Rattle.format.specs.Entries.{entry_at, meaning_at, any_below};
 ghost use Rattle.format.specs.Check.{tables_differ, copy_differs, copies_differ};

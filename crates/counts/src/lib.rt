@@ -1,4 +1,6 @@
 // Marked sectors counted, and lists of words cleared.
+#![tactic(auto)]
+
 ghost use Rattle.std.specs.Prelude.{◌≡◌, ◌*◌, ◌^◌, ◌<◌, length};
 ghost use Rattle.base.specs.Bytes.{zeros};
 ghost use Rattle.base.specs.SumsBelow.{sum_below};

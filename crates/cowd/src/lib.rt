@@ -1,4 +1,6 @@
 // A COWD header, sectors 0 to 3: refusals 1, 43, 3 and 6.
+#![tactic(auto)]
+
 ghost use Rattle.std.specs.Prelude.{◌≡◌, ◌≤◌, ◌<◌, length};
 ghost use Rattle.base.specs.Numbers.{le_at};
 ghost use Rattle.format.specs.Cowd.{cowd_fields, cowd_version_broken, cowd_sizes_broken, count_broken, cowd_fault};

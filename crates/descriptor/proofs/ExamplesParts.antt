@@ -12,10 +12,12 @@ use Rattle.descriptor.specs.declared.Extent.{Extent}
 use Rattle.descriptor.specs.declared.State.{State}
 use Rattle.descriptor.specs.declared.Line.{Line}
 use Rattle.descriptor.specs.declared.Line.TheVariants.{Skip, Fault, Holds, Key}
-use Rattle.descriptor.specs.Words.{count_before, kept, trim_end, trim, no_value, digit_value, numeral_from, numeral, decimal}
+use Rattle.descriptor.specs.Words.{count_before, kept, trim_end, trim, no_value, digit_value, numeral_from, numeral}
+use Rattle.descriptor.specs.Words.{decimal_value}
 use Rattle.descriptor.specs.Words.{hex, to_quote_at, quoted_length}
 use Rattle.descriptor.specs.Text.{Span, text_of, tail_of, lines_from, lines}
-use Rattle.descriptor.specs.Extents.{access_of, type_of, blanks_then_decimal_at, blanks_then_decimal, offset_of, extent, with_name}
+use Rattle.descriptor.specs.Extents.{access_of, type_of, blanks_then_decimal_at, blanks_then_decimal, offset_of, extent}
+use Rattle.descriptor.specs.Extents.{with_name}
 use Rattle.descriptor.specs.Extents.{from_name, with_type, with_sectors}
 use Rattle.descriptor.specs.Keys.{key_of, version_is, cid_is, create_type_is, value_of, with_key, split_at}
 use Rattle.descriptor.specs.Line.{line_with, line}
@@ -25,7 +27,7 @@ use Rattle.descriptor.proofs.TextExamples.{Example, example, Hold}
 
 -- ---- numbers
 abbrev decimals : List String → List ℕ
-decimals ws = map (λ w. decimal (ascii w)) ws
+decimals ws = map (λ w. decimal_value (ascii w)) ws
 
 abbrev hexes : List String → List ℕ
 hexes ws = map (λ w. hex (ascii w)) ws
@@ -112,7 +114,7 @@ line_examples =
     (Key 1 1 0 ∷ Key 1 3 0 ∷ Fault 33 ∷ Fault 33 ∷ Fault 33 ∷ [])
     ∷ example (said ("CID=ffffffff" ∷ "cid \r=\r 0" ∷ "CID=100000000" ∷ "CID=" ∷ "parentCID=1F" ∷ "parentCID=x" ∷ []))
     (Key 2 0xffffffff 0 ∷ Key 2 0 0 ∷ Fault 33 ∷ Fault 33 ∷ Key 3 0x1f 0 ∷ Fault 33 ∷ [])
-    -- create_type is quoted, maybe empty, and nothing stands after it
+    -- createType is quoted, maybe empty, and nothing stands after it
     ∷ example (said ("createType=\"custom\"" ∷ "CREATETYPE = \"\"" ∷ [])) (Key 4 53 6 ∷ Key 4 59 0 ∷ [])
     ∷ example (said ("createType=custom" ∷ "createType=\"custom" ∷ "createType=\"a\"b" ∷ "createType=" ∷ []))
     (replicate 4 (Fault 33))

@@ -10,7 +10,8 @@ use Rattle.base.specs.Strings.{same_word, ascii}
 use Rattle.descriptor.specs.declared.Extent.{Extent}
 use Rattle.descriptor.specs.Words.{count_before, kept, digit_value, numeral_from, numeral, to_quote_at, quoted_length}
 use Rattle.descriptor.specs.Text.{lines_from}
-use Rattle.descriptor.specs.Extents.{access_of, type_of, blanks_then_decimal_at, blanks_then_decimal, offset_of, extent, with_name}
+use Rattle.descriptor.specs.Extents.{access_of, type_of, blanks_then_decimal_at, blanks_then_decimal, offset_of, extent}
+use Rattle.descriptor.specs.Extents.{with_name}
 use Rattle.descriptor.specs.Extents.{from_name, with_type, with_sectors}
 use Rattle.descriptor.specs.Keys.{key_of, version_is, cid_is, create_type_is, value_of, with_key, split_at}
 use Rattle.descriptor.specs.Line.{line_with}
@@ -28,7 +29,7 @@ text (l ∷ ls) = ascii l ++ 0x0a ∷ text ls
 abbrev under : String → List String → List ℕ
 under first ls = text (first ∷ "version=1" ∷ "CID=1f" ∷ "parentCID=ffffffff" ∷ "createType=\"custom\"" ∷ ls)
 
--- the same under the right first line: create_type's place is 70, and that of line 6 is 78
+-- the same under the right first line: createType's place is 70, and that of line 6 is 78
 abbrev keyed : List String → List ℕ
 keyed ls = under "# Disk DescriptorFile" ls
 

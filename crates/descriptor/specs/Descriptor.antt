@@ -93,7 +93,7 @@ unfoldable pub step : List ℕ → State → Span → State
 step text st l = judged_line st (end_of text l) (trim (bytes_of text l))
 
 -- ---- the end
--- one of version, CID, parentCID and create_type did not come
+-- one of version, CID, parentCID and createType did not come
 abbrev pub missing : List ℕ → Bool
 missing values =
     eqb (get_or values version_key 0) no_value

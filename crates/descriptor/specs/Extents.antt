@@ -6,7 +6,8 @@ use Rattle.base.specs.Strings.{same_word, ascii}
 use Rattle.descriptor.specs.declared.Stop.TheVariants.{NotBlank}
 use Rattle.descriptor.specs.declared.Line.{Line}
 use Rattle.descriptor.specs.declared.Line.TheVariants.{Fault, Holds}
-use Rattle.descriptor.specs.Words.{empty, count_before, rest, word, after_word, no_value, decimal, quoted_length, quoted_place}
+use Rattle.descriptor.specs.Words.{empty, count_before, rest, word, after_word, no_value, decimal_value, quoted_length}
+use Rattle.descriptor.specs.Words.{quoted_place}
 use Rattle.descriptor.specs.Words.{after_quoted}
 
 -- ---- fixed words
@@ -68,7 +69,7 @@ offset_bad offset = ltb 0xffffffff offset
 -- ---- the offset
 -- one or more spaces or tabs stand before a decimal, and nothing after it
 unfoldable pub blanks_then_decimal_at : ℕ → List ℕ → ℕ
-blanks_then_decimal_at blanks v = pick (eqb blanks 0) no_value (decimal v)
+blanks_then_decimal_at blanks v = pick (eqb blanks 0) no_value (decimal_value v)
 
 -- the decimal in v, behind the spaces or tabs that v starts with
 unfoldable pub blanks_then_decimal : List ℕ → ℕ
@@ -122,4 +123,4 @@ with_sectors first end access sectors v = pick (sectors_bad sectors) (Fault 34) 
 
 -- v is the sectors and what stands after them
 abbrev pub from_sectors : ℕ → ℕ → ℕ → List ℕ → Line
-from_sectors first end access v = with_sectors first end access (decimal (word v)) (after_word v)
+from_sectors first end access v = with_sectors first end access (decimal_value (word v)) (after_word v)

@@ -6,7 +6,8 @@ use Rattle.base.specs.Strings.{same_word, ascii}
 use Rattle.descriptor.specs.declared.Stop.TheVariants.{Byte}
 use Rattle.descriptor.specs.declared.Line.{Line}
 use Rattle.descriptor.specs.declared.Line.TheVariants.{Skip, Fault, Key}
-use Rattle.descriptor.specs.Words.{equals, empty, count_before, trim_start, trim_end, no_value, decimal, hex, quoted_length}
+use Rattle.descriptor.specs.Words.{equals, empty, count_before, trim_start, trim_end, no_value, decimal_value, hex}
+use Rattle.descriptor.specs.Words.{quoted_length}
 use Rattle.descriptor.specs.Words.{quoted_place}
 
 -- ---- keys
@@ -26,7 +27,7 @@ parent_cid_key = 3
 abbrev pub create_type_key : ℕ
 create_type_key = 4
 
--- version, CID, parentCID and create_type are required
+-- version, CID, parentCID and createType are required
 unfoldable pub key_of : List ℕ → ℕ
 key_of w =
     pick (same_word w (ascii "version")) version_key
@@ -47,15 +48,16 @@ version_is n = pick (version_bad n) (Fault 33) (Key version_key n 0)
 unfoldable pub cid_is : ℕ → ℕ → Line
 cid_is key n = pick (eqb n no_value) (Fault 33) (Key key n 0)
 
--- create_type is quoted, no quote inside: n bytes, if that is a value, and the two quotes are all `long` bytes of the value
+-- createType is quoted, no quote inside: n bytes, if that is a value, and the two quotes are all `long` bytes of the value
 unfoldable pub create_type_is : ℕ → ℕ → ℕ → Line
-create_type_is place long n = pick (eqb n no_value) (Fault 33) (pick (eqb long (n + 2)) (Key create_type_key place n) (Fault 33))
+create_type_is place long n = pick (eqb n no_value) (Fault 33)
+    (pick (eqb long (n + 2)) (Key create_type_key place n) (Fault 33))
 
 -- the value v of a key; other keys are skipped
 unfoldable pub value_of : ℕ → ℕ → List ℕ → Line
 value_of end key v =
     pick (eqb key other_key) Skip
-    (pick (eqb key version_key) (version_is (decimal v))
+    (pick (eqb key version_key) (version_is (decimal_value v))
     (pick (eqb key create_type_key) (create_type_is (quoted_place end v) (length v) (quoted_length v)) (cid_is key (hex v))))
 
 -- ---- the line

@@ -10,7 +10,7 @@ use Rattle.descriptor.specs.Keys.{version_key, cid_key, parent_cid_key, create_t
 use Rattle.descriptor.specs.Descriptor.{read_text}
 
 -- ---- the first call: a text is read, and its extents are handed over
--- the answer holds the number of extents, version, CID, parentCID and create_type's place and length
+-- the answer holds the number of extents, version, CID, parentCID and createType's place and length
 abbrev pub described : ℕ → ℕ → ℕ → ℕ → ℕ → ℕ → ℕ → ℕ → Described
 described number place extents version cid parent_cid type_at type_length =
     record {

@@ -107,8 +107,8 @@ unfoldable pub numeral : ℕ → ℕ → List ℕ → ℕ
 numeral base most w = pick (empty w) no_value (pick (ltb most (length w)) no_value (numeral_from base 0 w))
 
 -- decimals have 1 to 10 digits
-abbrev pub decimal : List ℕ → ℕ
-decimal w = numeral 10 10 w
+abbrev pub decimal_value : List ℕ → ℕ
+decimal_value w = numeral 10 10 w
 
 -- 1 to 8 hex digits
 abbrev pub hex : List ℕ → ℕ

@@ -1,8 +1,9 @@
 // A descriptor's text: what it says, and the lent list of records in which its extents are handed over.
+#![tactic(auto)]
 
 // One extent, a record of the lent list. What its line doesn't have is 0.
 #[repr(C)]
-#[derive(Drop)]
+#[derive(Clone, Copy)]
 pub struct Extent {
     // First virtual sector, and the number of sectors.
     pub first: u64,
@@ -19,7 +20,7 @@ pub struct Extent {
 
 // The first call's answer. On a refusal its number and place, and 0 for the rest; else number 0.
 #[repr(C)]
-#[derive(Drop)]
+#[derive(Clone, Copy)]
 pub struct Described {
     pub number: u64,
     pub place: u64,
@@ -33,7 +34,7 @@ pub struct Described {
 
 // The second call's answer: the number of a record in the list, from 0, or a refusal's number and place.
 #[repr(C)]
-#[derive(Drop)]
+#[derive(Clone, Copy)]
 pub struct Found {
     pub number: u64,
     pub place: u64,
@@ -42,7 +43,7 @@ pub struct Found {
 
 // Where a run of bytes stops: at a byte, at any other than it, at a space or tab, at any other than these, at the
 // first byte that is not trimmed.
-#[derive(Drop)]
+#[derive(Clone, Copy)]
 pub enum Stop {
     Byte(u8),
     NotByte(u8),
@@ -52,7 +53,7 @@ pub enum Stop {
 }
 
 // What one line says: nothing; a refusal's number; an extent; a required key's number, its value and the value's length.
-#[derive(Drop)]
+#[derive(Clone, Copy)]
 pub enum Line {
     Skip,
     Fault(u64),
@@ -61,7 +62,7 @@ pub enum Line {
 }
 
 // What is known after some lines.
-#[derive(Drop)]
+#[derive(Clone, Copy)]
 pub struct State {
     // A refusal's number and place, 0 for none.
     pub number: u64,
@@ -79,7 +80,7 @@ pub struct State {
 }
 
 // What a text comes to: records, how many of them are to be stored, and the answer.
-#[derive(Drop)]
+#[derive(Clone, Copy)]
 pub struct Parsed {
     pub records: [Extent; 32],
     pub count: usize,

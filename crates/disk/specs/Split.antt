@@ -23,7 +23,7 @@ use Rattle.format.specs.declared.CheckAnswer.{CheckAnswer}
 use Rattle.format.specs.declared.CheckAnswer.TheVariants.{Accepted, Refused as check_refused}
 use Rattle.format.specs.declared.LookupAnswer.{LookupAnswer}
 use Rattle.format.specs.declared.LookupAnswer.TheVariants.{Found as found_in, Refused as lookup_refused}
-use Rattle.format.specs.declared.Located.{Located}
+use Rattle.format.specs.declared.numbers.Located.{Located}
 use Rattle.disk.specs.declared.SplitAnswer.{SplitAnswer}
 use Rattle.disk.specs.declared.SplitAnswer.TheVariants.{Found, Unread, Lengths, SectorPast, NoAccess, OtherFile, Image}
 use Rattle.disk.specs.declared.SplitAnswer.TheVariants.{CapacityDiffers}

@@ -1,8 +1,10 @@
 // A disk cut into several files, told by a descriptor: where a virtual sector comes from.
+#![tactic(auto)]
+
 use format::{LayerSource, Refusal};
 
 // The extent, from 0, stands where a chain's answer has the layer.
-#[derive(Drop)]
+#[derive(Clone, Copy)]
 pub enum SplitAnswer {
     Found(LayerSource),
     // The descriptor is refused: number and place.

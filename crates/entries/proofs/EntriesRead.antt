@@ -31,6 +31,12 @@ module _ (s : List ℕ) (packed : Bool) (size e : ℕ) (one : 1 ≤ size) where
   past_out f q l = sym (grain_past_lem packed size e one s (file_sectors s) (omega arith))
 
   -- where it does not run past F, its first sector can be read
-  pub grain_read : {r : Bool} → r ≡ ltb (file_sectors s) (e + grain_sectors s packed size e) → r ≡ false → 512 * e + 12 ≤ length s
+  pub grain_read : {r : Bool} → r ≡ ltb (file_sectors s) (e + grain_sectors s packed size e) → r ≡ false
+      → 512 * e + 12 ≤ length s
   grain_read q n =
-      omega (arith, some_sectors s packed size e one, ltb-false (file_sectors s) (e + grain_sectors s packed size e) (sym q ∙ n))
+      omega (
+        arith,
+        some_sectors s packed size e one,
+        ltb-false (file_sectors s) (e + grain_sectors s packed size e)
+            (sym q ∙ n),
+      )

@@ -1,4 +1,6 @@
 // Entries of directories and tables, and what stands at the sectors that they name.
+#![tactic(auto)]
+
 ghost use Rattle.std.specs.Prelude.{◌≡◌, ◌&&◌, ltb, ◌+◌, ◌-◌, ◌*◌, ◌≤◌, ◌<◌, length};
 ghost use Rattle.format.specs.Geometry.{file_sectors};
 ghost use Rattle.format.specs.Entries.{entry_at, meaning, meaning_at, marker_size, grain_sectors, marker_broken};

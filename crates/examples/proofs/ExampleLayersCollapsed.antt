@@ -13,7 +13,8 @@ use Rattle.base.specs.Rows.{rows, entry_bytes}
 use Rattle.base.proofs.Over.{zeros_add}
 use Rattle.format.specs.Geometry.{grains, directory_entries, directory_sectors}
 use Rattle.format.specs.Grains.{Map, upper_unless_absent, merge, bytes_of, one_if_stored, stored_below, entry_for}
-use Rattle.format.specs.Layout.{table_count, tables_at, tables_end, sector_v, sector_of, table_entry, header_bytes, directory_bytes}
+use Rattle.format.specs.Layout.{table_count, tables_at, tables_end, sector_v, sector_of, table_entry, header_bytes}
+use Rattle.format.specs.Layout.{directory_bytes}
 use Rattle.format.specs.Layout.{table_bytes, gap_bytes, grain_bytes, sectors_laid, layout_of, layout_as}
 use Rattle.format.specs.Collapse.{map_of, normal_form, collapsed, written_if_room, collapse, output, collapse_output}
 use Rattle.format.specs.declared.Kind.TheVariants.{Kdmv}

@@ -19,7 +19,7 @@ use Rattle.format.specs.declared.LookupAnswer.TheVariants.{Found, Refused as not
 use Rattle.format.specs.declared.ChainAnswer.TheVariants.{Found as found_in, Refused as not_found_in}
 use Rattle.format.specs.declared.CollapseAnswer.{CollapseAnswer}
 use Rattle.format.specs.declared.CollapseAnswer.TheVariants.{Written as written_to, Refused as not_written}
-use Rattle.format.specs.declared.Located.{Located}
+use Rattle.format.specs.declared.numbers.Located.{Located}
 use Rattle.examples.specs.Examples.{Example, example, Hold}
 use Rattle.examples.specs.Images.{plain_header, open_header}
 

@@ -18,7 +18,8 @@ use Rattle.format.specs.Entries.{meaning, in_table, entry_of_grain, entries_in_u
 use Rattle.format.specs.Areas.{Area, area, if_there, named, header_area, descriptor_area, directory_area, redundant_area}
 use Rattle.format.specs.Areas.{primary_tables, redundant_tables, footer_area, last_area, areas, runs_past, shares, shares_any}
 use Rattle.format.specs.Areas.{meet}
-use Rattle.format.specs.Check.{descriptor_misplaced, directory_misplaced, redundant_directory_misplaced, misplaced, lowest_misplaced}
+use Rattle.format.specs.Check.{descriptor_misplaced, directory_misplaced, redundant_directory_misplaced, misplaced}
+use Rattle.format.specs.Check.{lowest_misplaced}
 use Rattle.format.specs.Check.{lowest_from, marker_broken_at, copy_differs, copies_differ, unless_grain, check_apart}
 use Rattle.format.specs.Check.{check_copies, check_grains, check_layout, check_from, check}
 use Rattle.format.specs.Accepted.{FooterRules}

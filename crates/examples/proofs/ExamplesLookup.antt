@@ -20,7 +20,7 @@ use Rattle.format.specs.declared.Refusal.TheVariants.{Misplaced, GrainPast, Mark
 use Rattle.format.specs.declared.HeaderAnswer.TheVariants.{Known}
 use Rattle.format.specs.declared.LookupAnswer.{LookupAnswer}
 use Rattle.format.specs.declared.LookupAnswer.TheVariants.{Found, Refused}
-use Rattle.format.specs.declared.Part.{Part}
+use Rattle.format.specs.declared.numbers.Part.{Part}
 use Rattle.examples.specs.Examples.{Example, example, Hold}
 use Rattle.examples.specs.Images.{small, packed, sized_header, plain_header, stream_header}
 use Rattle.examples.proofs.ExamplesCheck.{packed_known}

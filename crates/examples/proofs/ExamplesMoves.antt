@@ -12,7 +12,8 @@ use Rattle.format.specs.Header.{cowd_header, judge_of}
 use Rattle.format.specs.Entries.{meaning, in_table, entry_of_grain, any_below}
 use Rattle.format.specs.Check.{check_from}
 use Rattle.format.specs.Grains.{Map, absent, stored, bytes_of, one_if_stored, stored_below, entry_for}
-use Rattle.format.specs.Layout.{table_count, tables_at, tables_end, sector_v, sector_of, sectors_laid, header_bytes, directory_bytes}
+use Rattle.format.specs.Layout.{table_count, tables_at, tables_end, sector_v, sector_of, sectors_laid, header_bytes}
+use Rattle.format.specs.Layout.{directory_bytes}
 use Rattle.format.specs.Layout.{table_bytes, gap_bytes, grain_bytes}
 use Rattle.format.specs.Collapse.{if_accepted, written_if_room}
 use Rattle.format.specs.Answers.{number, place}

@@ -10,7 +10,8 @@ use Rattle.base.specs.Bytes.{over, zeros}
 use Rattle.base.specs.Rows.{rows}
 use Rattle.descriptor.specs.Words.{count_before, kept, digit_value, numeral_from, numeral, to_quote_at, quoted_length}
 use Rattle.descriptor.specs.Text.{lines_from}
-use Rattle.descriptor.specs.Extents.{access_of, type_of, blanks_then_decimal_at, blanks_then_decimal, offset_of, extent, with_name}
+use Rattle.descriptor.specs.Extents.{access_of, type_of, blanks_then_decimal_at, blanks_then_decimal, offset_of, extent}
+use Rattle.descriptor.specs.Extents.{with_name}
 use Rattle.descriptor.specs.Extents.{from_name, with_type, with_sectors}
 use Rattle.descriptor.specs.Keys.{key_of, version_is, cid_is, create_type_is, value_of, with_key, split_at}
 use Rattle.descriptor.specs.Line.{line_with}
@@ -29,7 +30,8 @@ use Rattle.format.specs.Source.{grain_source, lookup_grain, lookup_entry, lookup
 use Rattle.format.specs.Chain.{lengths_sum}
 use Rattle.format.specs.declared.Source.TheVariants.{Zero, Stored}
 use Rattle.format.specs.declared.Refusal.TheVariants.{TooShort, Magic, GrainPast, KindGone}
-use Rattle.disk.specs.Split.{source_in, in_zero, in_plain, looked_up, in_accepted, in_image, by_type, in_extent, at_extent, split_from}
+use Rattle.disk.specs.Split.{source_in, in_zero, in_plain, looked_up, in_accepted, in_image, by_type, in_extent, at_extent}
+use Rattle.disk.specs.Split.{split_from}
 use Rattle.disk.specs.Split.{split, split_numbers}
 use Rattle.disk.specs.declared.SplitAnswer.{SplitAnswer}
 use Rattle.disk.specs.declared.SplitAnswer.TheVariants.{Unread, Lengths, SectorPast, NoAccess, OtherFile, Image}

@@ -11,7 +11,8 @@ use Rattle.base.specs.Rows.{rows}
 use Rattle.format.specs.Geometry.{grains, directory_entries, directory_sectors}
 use Rattle.format.specs.Kdmv.{kdmv_fields, kdmv_fault, footer_broken}
 use Rattle.format.specs.Cowd.{cowd_fields, cowd_fault}
-use Rattle.format.specs.Header.{kdmv_header, cowd_header, directory_of, header_of, grains_of, directory_entries_of, unless_fault}
+use Rattle.format.specs.Header.{kdmv_header, cowd_header, directory_of, header_of, grains_of, directory_entries_of}
+use Rattle.format.specs.Header.{unless_fault}
 use Rattle.format.specs.Header.{with_footer, judge_kdmv, judge_cowd, judge_of}
 use Rattle.format.specs.Entries.{meaning, in_table, entry_of_grain, grain_sectors, marker_broken, any_below}
 use Rattle.format.specs.Areas.{if_there, named, redundant_tables, areas, runs_past, shares, shares_any, meet}

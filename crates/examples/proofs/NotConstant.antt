@@ -27,20 +27,21 @@ use Rattle.format.specs.Layout.{table_count, tables_at, tables_end, sector_v, se
 use Rattle.format.specs.Collapse.{if_accepted, written_if_room, normal_from, normal, collapse_from, collapse}
 use Rattle.format.specs.Frame.{frame_areas, listed_if_room, frame_from, frame}
 use Rattle.format.specs.CheckIn.{sectors_of, before_meeting, came_to_marking, check_in_room, with_marked, check_in}
-use Rattle.format.specs.Mend.{from_good, over_table, mended_below, kinds_differ, is_refused, unmendable, change_of, mended_if_room}
+use Rattle.format.specs.Mend.{from_good, over_table, mended_below, kinds_differ, is_refused, unmendable, change_of}
+use Rattle.format.specs.Mend.{mended_if_room}
 use Rattle.format.specs.Mend.{mend_good, mend_from, mend}
 use Rattle.format.specs.Answers.{header_numbers, verdict, marked_numbers, located, chained, written, framed, surveyed}
 use Rattle.format.specs.Answers.{side_of, mended_numbers}
-use Rattle.format.specs.declared.Head.{Head}
-use Rattle.format.specs.declared.Verdict.{Verdict}
-use Rattle.format.specs.declared.Marked.{Marked}
-use Rattle.format.specs.declared.Located.{Located}
+use Rattle.format.specs.declared.numbers.Head.{Head}
+use Rattle.format.specs.declared.numbers.Verdict.{Verdict}
+use Rattle.format.specs.declared.numbers.Marked.{Marked}
+use Rattle.format.specs.declared.numbers.Located.{Located}
 use Rattle.format.specs.declared.steps.Steps.{Steps}
-use Rattle.format.specs.declared.Part.{Part}
-use Rattle.format.specs.declared.Written.{Written}
-use Rattle.format.specs.declared.Framed.{Framed}
-use Rattle.format.specs.declared.Mended.{Mended}
-use Rattle.format.specs.declared.Surveyed.{Surveyed}
+use Rattle.format.specs.declared.numbers.Part.{Part}
+use Rattle.format.specs.declared.numbers.Written.{Written}
+use Rattle.format.specs.declared.numbers.Framed.{Framed}
+use Rattle.format.specs.declared.numbers.Mended.{Mended}
+use Rattle.format.specs.declared.numbers.Surveyed.{Surveyed}
 use Rattle.format.specs.Survey.{entry_kind, count_of, row_from, add_row, totals_below, surveyed_if_room, survey}
 use Rattle.examples.specs.Images.{kdmv_sector, small, differing}
 use Rattle.disk.specs.Split.{in_zero, by_type, in_extent, at_extent, split_from, split, split_numbers}

@@ -13,7 +13,8 @@ use Rattle.base.specs.Rows.{rows}
 use Rattle.format.specs.Geometry.{grains, directory_entries, directory_sectors}
 use Rattle.format.specs.Kdmv.{kdmv_fields, kdmv_fault}
 use Rattle.format.specs.Cowd.{cowd_fields, cowd_fault}
-use Rattle.format.specs.Header.{kdmv_header, cowd_header, directory_of, header_of, unless_fault, with_footer, judge_kdmv, judge_cowd}
+use Rattle.format.specs.Header.{kdmv_header, cowd_header, directory_of, header_of, unless_fault, with_footer, judge_kdmv}
+use Rattle.format.specs.Header.{judge_cowd}
 use Rattle.format.specs.Header.{kind_gone, judge_of}
 use Rattle.format.specs.Entries.{meaning, in_table, entry_of_grain, any_below}
 use Rattle.format.specs.Areas.{if_there, named, redundant_tables, areas, runs_past, shares, shares_any, meet}
@@ -24,7 +25,7 @@ use Rattle.format.specs.Layout.{table_count, tables_at, tables_end, sector_v, se
 use Rattle.format.specs.Collapse.{if_accepted, written_if_room}
 use Rattle.format.specs.Moves.{says_zero, move_from, to_kdmv, to_cowd}
 use Rattle.format.specs.Answers.{written}
-use Rattle.format.specs.declared.Written.{Written}
+use Rattle.format.specs.declared.numbers.Written.{Written}
 use Rattle.examples.specs.Images.{small, small_cowd}
 use Rattle.examples.proofs.NotConstant.{differ}
 

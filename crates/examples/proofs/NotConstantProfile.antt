@@ -12,7 +12,7 @@ use Rattle.format.specs.Collapse.{normal_form}
 use Rattle.format.specs.Profile.{profile_if_accepted, profile}
 use Rattle.format.specs.Answers.{verdict}
 use Rattle.format.specs.declared.CheckAnswer.{CheckAnswer}
-use Rattle.format.specs.declared.Verdict.{Verdict}
+use Rattle.format.specs.declared.numbers.Verdict.{Verdict}
 use Rattle.laws.specs.Layers.{Layer}
 use Rattle.laws.proofs.LayoutNumbers.{Sizes}
 use Rattle.laws.proofs.CollapsedLayers.{capacity_is}
@@ -37,5 +37,6 @@ nothing = refl
 pub profile_varies : (r : Verdict) → ((s : List ℕ) → r ≡ verdict (profile s)) → ⊥
 profile_varies =
     let met = ap (λ (a : CheckAnswer). (verdict a).capacity) (meets_profile (normal_meets blank refl)) in
-    differ (λ s. verdict (profile s)) (λ (v : Verdict). v.capacity) (normal_form (layout_of 128 128 all_absent)) 128 (omega arith)
+    differ (λ s. verdict (profile s)) (λ (v : Verdict). v.capacity) (normal_form (layout_of 128 128 all_absent)) 128
+    (omega arith)
     nothing (met ∙ capacity_is (normal_accepted blank))

@@ -123,71 +123,71 @@ module _ (T : Ended) where
           (λ p. (p.0, all κs a ws ∙ (λ i. put κs a (p.1.0 i) (p.1.1 i)))))
 
 -- ---- the calls: each `_` is what the contract itself says
-pub check_determined : Determined check.ended (λ M. check.spec)
+pub check_determined : Determined check.ended (λ M 𝓤. check.spec)
 check_determined = answered check.ended _ (λ κs a. (tt, tt)) (λ κs a ws. refl)
 
-pub profile_determined : Determined profile.ended (λ M. profile.spec)
+pub profile_determined : Determined profile.ended (λ M 𝓤. profile.spec)
 profile_determined = answered profile.ended _ (λ κs a. (tt, tt)) (λ κs a ws. refl)
 
-pub header_determined : Determined header.ended (λ M. header.spec)
+pub header_determined : Determined header.ended (λ M 𝓤. header.spec)
 header_determined = answered header.ended _ (λ κs a. (tt, tt)) (λ κs a ws. refl)
 
-pub lookup_determined : Determined lookup.ended (λ M. lookup.spec)
+pub lookup_determined : Determined lookup.ended (λ M 𝓤. lookup.spec)
 lookup_determined = answered lookup.ended _ (λ κs a. (tt, (tt, tt))) (λ κs a ws. refl)
 
-pub steps_determined : Determined steps.ended (λ M. steps.spec)
+pub steps_determined : Determined steps.ended (λ M 𝓤. steps.spec)
 steps_determined = answered steps.ended _ (λ κs a. (tt, (tt, tt))) (λ κs a ws. refl)
 
-pub chain_determined : Determined chain.ended (λ M. chain.spec)
+pub chain_determined : Determined chain.ended (λ M 𝓤. chain.spec)
 chain_determined = answered chain.ended _ (λ κs a. (tt, (tt, (tt, tt)))) (λ κs a ws. refl)
 
-pub read_determined : Determined read.ended (λ M. read.spec)
+pub read_determined : Determined read.ended (λ M 𝓤. read.spec)
 read_determined = answered read.ended _ (λ κs a. (tt, (tt, tt))) (λ κs a ws. refl)
 
-pub find_determined : Determined find.ended (λ M. find.spec)
+pub find_determined : Determined find.ended (λ M 𝓤. find.spec)
 find_determined = answered find.ended _ (λ κs a. (tt, (tt, tt))) (λ κs a ws. refl)
 
-pub split_determined : Determined split.ended (λ M. split.spec)
+pub split_determined : Determined split.ended (λ M 𝓤. split.spec)
 split_determined = answered split.ended _ (λ κs a. (tt, (tt, (tt, (tt, tt))))) (λ κs a ws. refl)
 
-pub check_in_determined : Determined check_in.ended (λ M. check_in.spec)
+pub check_in_determined : Determined check_in.ended (λ M 𝓤. check_in.spec)
 check_in_determined =
     written_apart check_in.ended _ _ _ (λ κs e. e.1.0.now) (λ κs a x. (tt, (x, tt))) (λ κs a ws. refl)
 
-pub frame_determined : Determined frame.ended (λ M. frame.spec)
+pub frame_determined : Determined frame.ended (λ M 𝓤. frame.spec)
 frame_determined =
     written_apart frame.ended _ _ _ (λ κs e. e.1.0.now) (λ κs a x. (tt, (x, tt))) (λ κs a ws. refl)
 
-pub normal_determined : Determined normal.ended (λ M. normal.spec)
+pub normal_determined : Determined normal.ended (λ M 𝓤. normal.spec)
 normal_determined =
     written_apart normal.ended _ _ _ (λ κs e. e.1.0.now) (λ κs a x. (tt, (x, tt))) (λ κs a ws. refl)
 
-pub collapse_determined : Determined collapse.ended (λ M. collapse.spec)
+pub collapse_determined : Determined collapse.ended (λ M 𝓤. collapse.spec)
 collapse_determined =
     written_apart collapse.ended _ _ _ (λ κs e. e.1.1.0.now) (λ κs a x. (tt, (tt, (x, tt)))) (λ κs a ws. refl)
 
-pub to_kdmv_determined : Determined to-kdmv.ended (λ M. to-kdmv.spec)
+pub to_kdmv_determined : Determined to-kdmv.ended (λ M 𝓤. to-kdmv.spec)
 to_kdmv_determined =
     written_apart to-kdmv.ended _ _ _ (λ κs e. e.1.0.now) (λ κs a x. (tt, (x, tt))) (λ κs a ws. refl)
 
-pub to_cowd_determined : Determined to-cowd.ended (λ M. to-cowd.spec)
+pub to_cowd_determined : Determined to-cowd.ended (λ M 𝓤. to-cowd.spec)
 to_cowd_determined =
     written_apart to-cowd.ended _ _ _ (λ κs e. e.1.0.now) (λ κs a x. (tt, (x, tt))) (λ κs a ws. refl)
 
-pub close_determined : Determined close.ended (λ M. close.spec)
+pub close_determined : Determined close.ended (λ M 𝓤. close.spec)
 close_determined =
     written_apart close.ended _ _ _ (λ κs e. e.1.0.now) (λ κs a x. (tt, (x, tt))) (λ κs a ws. refl)
 
-pub survey_determined : Determined survey.ended (λ M. survey.spec)
+pub survey_determined : Determined survey.ended (λ M 𝓤. survey.spec)
 survey_determined =
     written_both survey.ended _ _ _ _ _ (λ κs e. e.1.1.0.now) (λ κs e. e.1.1.1.0.now)
     (λ κs a x y. (tt, (tt, (x, (y, tt))))) (λ κs a ws. refl)
 
-pub mend_determined : Determined mend.ended (λ M. mend.spec)
+pub mend_determined : Determined mend.ended (λ M 𝓤. mend.spec)
 mend_determined =
     written_both mend.ended _ _ _ _ _ (λ κs e. e.0.now) (λ κs e. e.1.1.0.now)
     (λ κs a x y. (x, (tt, (y, tt)))) (λ κs a ws. refl)
 
-pub descriptor_determined : Determined descriptor.ended (λ M. descriptor.spec)
+pub descriptor_determined : Determined descriptor.ended (λ M 𝓤. descriptor.spec)
 descriptor_determined =
     written descriptor.ended _ _ _ (λ κs e. e.1.0.now) (λ κs a x. (tt, (x, tt))) (λ κs a ws. refl)

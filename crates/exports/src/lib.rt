@@ -1,4 +1,6 @@
 // The C face: each public call, with its answer in document 01's numbers. A slice is a pointer and a count.
+#![tactic(auto)]
+
 ghost use Rattle.std.specs.Prelude.{◌≡◌, length};
 ghost use Rattle.format.specs.Header.{judge};
 ghost use Rattle.format.specs.Check.{check};

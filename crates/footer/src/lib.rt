@@ -1,4 +1,6 @@
 // Refusal 7: the footer of a KDMV image whose directory stands at its end, and the last sector.
+#![tactic(auto)]
+
 ghost use Rattle.std.specs.Prelude.{◌≡◌, not, ◌&&◌, ◌+◌, ◌≤◌, length};
 ghost use Rattle.base.specs.Strings.{same_at};
 ghost use Rattle.base.specs.Bytes.{zeros};

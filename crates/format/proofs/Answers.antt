@@ -30,18 +30,18 @@ use Rattle.format.specs.declared.FrameAnswer.TheVariants.{Listed, Refused as not
 use Rattle.format.specs.declared.MarkedAnswer.{MarkedAnswer}
 use Rattle.format.specs.declared.MendAnswer.{MendAnswer}
 use Rattle.format.specs.declared.MendAnswer.TheVariants.{Mended as mended_in, Refused as not_mended}
-use Rattle.format.specs.declared.Mended.{Mended}
+use Rattle.format.specs.declared.numbers.Mended.{Mended}
 use Rattle.format.specs.declared.closing.CloseAnswer.{CloseAnswer}
 use Rattle.format.specs.declared.closing.CloseAnswer.TheVariants.{Closed as closed_in, Refused as not_closed}
 use Rattle.format.specs.declared.closing.Closed.{Closed}
-use Rattle.format.specs.declared.Verdict.{Verdict}
-use Rattle.format.specs.declared.Marked.{Marked}
-use Rattle.format.specs.declared.Located.{Located}
-use Rattle.format.specs.declared.Written.{Written}
-use Rattle.format.specs.declared.Framed.{Framed}
+use Rattle.format.specs.declared.numbers.Verdict.{Verdict}
+use Rattle.format.specs.declared.numbers.Marked.{Marked}
+use Rattle.format.specs.declared.numbers.Located.{Located}
+use Rattle.format.specs.declared.numbers.Written.{Written}
+use Rattle.format.specs.declared.numbers.Framed.{Framed}
 use Rattle.format.specs.declared.SurveyAnswer.{SurveyAnswer}
 use Rattle.format.specs.declared.SurveyAnswer.TheVariants.{Surveyed as surveyed_in, Refused as not_surveyed}
-use Rattle.format.specs.declared.Surveyed.{Surveyed}
+use Rattle.format.specs.declared.numbers.Surveyed.{Surveyed}
 
 -- what can be told back is told without loss
 lossless : {A B : Type 0} (tell : A → B) (back : B → A) → ((a : A) → back (tell a) ≡ a) → (a b : A) → tell a ≡ tell b → a ≡ b

@@ -9,7 +9,8 @@ use Rattle.base.specs.Pick.{pick}
 use Rattle.base.proofs.Steps.{cond_all}
 use Rattle.format.specs.Header.{header_of, judge_of}
 use Rattle.format.specs.Areas.{areas, meet}
-use Rattle.format.specs.Check.{misplaced, lowest_past, lowest_bad_marker, copies_differ, unless_grain, check_apart, check_copies}
+use Rattle.format.specs.Check.{misplaced, lowest_past, lowest_bad_marker, copies_differ, unless_grain, check_apart}
+use Rattle.format.specs.Check.{check_copies}
 use Rattle.format.specs.Check.{check_grains, check_layout, check_from, check_of}
 use Rattle.format.specs.CheckIn.{came_to_marking}
 use Rattle.format.specs.Answers.{number}
@@ -21,7 +22,7 @@ use Rattle.format.specs.declared.Lowest.TheVariants.{None, Grain}
 use Rattle.format.specs.declared.Refusal.{Refusal}
 use Rattle.format.specs.declared.Refusal.TheVariants.{GrainPast, Marker}
 use Rattle.format.specs.declared.CheckAnswer.{CheckAnswer}
-use Rattle.format.specs.declared.CheckAnswer.TheVariants.{Accepted, Refused}
+use Rattle.format.specs.declared.CheckAnswer.TheVariants.{Refused}
 use Rattle.format.specs.declared.HeaderAnswer.{HeaderAnswer}
 use Rattle.format.specs.declared.HeaderAnswer.TheVariants.{Known, Refused as unknown}
 use Rattle.format.proofs.HeaderJudged.{taken_header}

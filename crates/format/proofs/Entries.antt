@@ -16,7 +16,8 @@ use Rattle.format.specs.Entries.{in_table, meaning_at, entry_of_grain, marker_si
 
 -- grain base + k, where base is d tables on, uses directory entry d and table entry k
 pub entry_of : (s : List ℕ) (one_is_zero : Bool) (per_table directory base d k : ℕ) → base ≡ d * per_table → k < per_table
-    → entry_of_grain s one_is_zero per_table directory (base + k) ≡ in_table s one_is_zero k (meaning_at s one_is_zero directory d)
+    → entry_of_grain s one_is_zero per_table directory (base + k) ≡ in_table s one_is_zero k
+    (meaning_at s one_is_zero directory d)
 unfolding entry_of_grain
 entry_of s one_is_zero per_table directory base d k eq lt =
     let q : (d * per_table + k) / per_table ≡ d = mul-add-div_right (omega arith) d k ∙ rw (div-eq_of_lt lt, add-zero) in

@@ -94,7 +94,8 @@ entry_small zeroed v n l b = omega arith
 entry_small (stored s) v n l b = b
 
 -- the bytes of the grains below n
-pub stored_length : (size : ℕ) (m : Map) (n : ℕ) → ((g : ℕ) → g < n → length (bytes_of (m g)) ≡ one_if_stored (m g) * (512 * size))
+pub stored_length : (size : ℕ) (m : Map) (n : ℕ)
+    → ((g : ℕ) → g < n → length (bytes_of (m g)) ≡ one_if_stored (m g) * (512 * size))
     → length (rows n (λ g. bytes_of (m g))) ≡ stored_below m n * (512 * size)
 unfolding rows stored_below
 stored_length size m zero w = sym (zero-mul (512 * size))

@@ -10,7 +10,8 @@ use Rattle.base.specs.Strings.{same_at}
 use Rattle.base.proofs.Steps.{cond_all}
 use Rattle.format.specs.Kdmv.{kdmv_fields, kdmv_fault}
 use Rattle.format.specs.Cowd.{cowd_magic, cowd_fields, cowd_fault}
-use Rattle.format.specs.Header.{unless_fault, with_footer, judge_kdmv, judge_cowd, judge_of, judge, judge_kdmv_start, judge_start}
+use Rattle.format.specs.Header.{unless_fault, with_footer, judge_kdmv, judge_cowd, judge_of, judge, judge_kdmv_start}
+use Rattle.format.specs.Header.{judge_start}
 use Rattle.format.specs.Answers.{number}
 use Rattle.format.specs.declared.Taken.{Taken}
 use Rattle.format.specs.declared.Taken.TheVariants.{KdmvAlone}

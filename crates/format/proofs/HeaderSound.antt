@@ -1,5 +1,5 @@
 -- A header that is not refused has small sizes, and its directory and tables have room for the entries in use.
-use Prim.Native.Nat.{ℕ, ◌*◌, ◌≤◌}
+use Prim.Native.Nat.{ℕ}
 use mathlib.Core.Path.{◌≡◌}
 use mathlib.Core.List.{List}
 use mathlib.Core.Logic.{⊎_elim}
@@ -7,7 +7,7 @@ use native.Mathlib.Omega.{arith}
 use lib.Dec.{lit≤}
 use Rattle.format.specs.Kdmv.{kdmv_fields}
 use Rattle.format.specs.Cowd.{cowd_fields}
-use Rattle.format.specs.Header.{kdmv_header, cowd_header, kdmv_header_of, cowd_header_of, directory_entries_of, judge_of, judge}
+use Rattle.format.specs.Header.{kdmv_header, cowd_header, kdmv_header_of, cowd_header_of, judge_of, judge}
 use Rattle.format.specs.Accepted.{KdmvRules, CowdRules}
 use Rattle.format.specs.Judged.{Sound}
 use Rattle.format.specs.declared.Taken.{Taken}

@@ -40,13 +40,15 @@ module _ (f : ℕ) where
   none_in = refl
 
   -- ---- each area by its number in the list
-  pub each_in : (l : List Area) → runs_past f l ≡ false → (i : ℕ) → i < length l → (area_at l i).first + (area_at l i).sector_count
+  pub each_in : (l : List Area) → runs_past f l ≡ false → (i : ℕ) → i < length l
+      → (area_at l i).first + (area_at l i).sector_count
       ≤ f
   each_in [] e i h = absurd (omega arith)
   each_in (a ∷ l) e zero h = (one_in a l e).0
   each_in (a ∷ l) e (suc i) h = each_in l (one_in a l e).1 i (omega arith)
 
-  pub in_each : (l : List Area) → ((i : ℕ) → i < length l → (area_at l i).first + (area_at l i).sector_count ≤ f) → runs_past f l
+  pub in_each : (l : List Area) → ((i : ℕ) → i < length l → (area_at l i).first + (area_at l i).sector_count ≤ f)
+      → runs_past f l
       ≡ false
   in_each [] h = none_in
   in_each (a ∷ l) h = in_one a l (h 0 (omega arith)) (in_each l (λ i b. h (suc i) (omega arith)))
@@ -72,7 +74,8 @@ module _ (f : ℕ) where
   in_rows (suc n) p h = in_both (rows n p) (p n) (in_rows n p (λ k l. h k (omega arith))) (h n (omega arith))
 
   -- ---- an area that an image may have, and one that an entry names
-  pub there_in : (there : Bool) (a : Area) → runs_past f (if_there there a) ≡ false → there ≡ true → a.first + a.sector_count ≤ f
+  pub there_in : (there : Bool) (a : Area) → runs_past f (if_there there a) ≡ false → there ≡ true
+      → a.first + a.sector_count ≤ f
   unfolding if_there pick
   there_in there a e t = (one_in a [] (rw t at e)).0
 

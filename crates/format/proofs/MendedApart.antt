@@ -46,7 +46,8 @@ module _ (s : List ℕ) (g : Header) (p : Placed s g) (two : g.redundant ≡ 0 �
   outside_table d i z u e =
       ⊎_elim (λ l. inl l)
       (λ l.
-      ⊎_elim (λ b. absurd (omega (arith, in_table_lem d u i e l b))) (λ b. inr b) (lt_or_ge i (512 * u + 4 * entries_in_use g d)))
+      ⊎_elim (λ b. absurd (omega (arith, in_table_lem d u i e l b))) (λ b. inr b)
+      (lt_or_ge i (512 * u + 4 * entries_in_use g d)))
       (lt_or_ge i (512 * u))
 
   pub mended_kept : (d : ℕ) → d ≤ directory_entries_of g → Kept s g (mended_below s g d)
@@ -66,7 +67,8 @@ module _ (s : List ℕ) (g : Header) (p : Placed s g) (two : g.redundant ≡ 0 �
     tables_apart x = omega (arith, simp holders_append at (apart x))
 
     -- so a byte of the one stands outside all others
-    module _ (d u j : ℕ) (l : d < directory_entries_of g) (e : other_entry s g d ≡ Sector u) (b : j < 4 * entries_in_use g d) where
+    module _ (d u j : ℕ) (l : d < directory_entries_of g) (e : other_entry s g d ≡ Sector u)
+        (b : j < 4 * entries_in_use g d) where
       outside_others : (k : ℕ) → k < directory_entries_of g → (k ≡ d → ⊥)
           → Outside (entries_in_use g k) (other_entry s g k) (512 * u + j)
       outside_others k m n =
@@ -82,7 +84,8 @@ module _ (s : List ℕ) (g : Header) (p : Placed s g) (two : g.redundant ≡ 0 �
     mended_byte d t u l is e j b =
         mended_moved s g p two d t u is e j b (directory_entries_of g) (omega arith) l (outside_others d u j l e b)
 
-    mended_entry : (d t u : ℕ) → d < directory_entries_of g → good_entry s g d ≡ Sector t → other_entry s g d ≡ Sector u → (k : ℕ)
+    mended_entry : (d t u : ℕ) → d < directory_entries_of g → good_entry s g d ≡ Sector t → other_entry s g d ≡ Sector u
+        → (k : ℕ)
         → k < entries_in_use g d → entry_at (mended s g) u k ≡ entry_at s t k
     mended_entry d t u l is e k b =
         number_moved (mended s g) s (512 * u + 4 * k) (512 * t + 4 * k) 4

@@ -67,11 +67,13 @@ module _ (s m : List ℕ) (n : ℕ) where
 
 -- ---- the tables of the first d directory entries
 module _ (s : List ℕ) (g : Header) (p : Placed s g) (two : g.redundant ≡ 0 → ⊥) where
-  pub good_room : (d : ℕ) → d < directory_entries_of g → (t : ℕ) → good_entry s g d ≡ Sector t → 512 * t + 4 * entries_in_use g d
+  pub good_room : (d : ℕ) → d < directory_entries_of g → (t : ℕ) → good_entry s g d ≡ Sector t
+      → 512 * t + 4 * entries_in_use g d
       ≤ length s
   good_room d l t e = omega (arith, table_room s g p (directory_entries_of g) refl d t l e)
 
-  pub other_room : (d : ℕ) → d < directory_entries_of g → (u : ℕ) → other_entry s g d ≡ Sector u → 512 * u + 4 * entries_in_use g d
+  pub other_room : (d : ℕ) → d < directory_entries_of g → (u : ℕ) → other_entry s g d ≡ Sector u
+      → 512 * u + 4 * entries_in_use g d
       ≤ length s
   other_room d l u e = omega (arith, copy_room s g p (directory_entries_of g) refl two d u l e)
 
@@ -86,11 +88,13 @@ module _ (s : List ℕ) (g : Header) (p : Placed s g) (two : g.redundant ≡ 0 �
   abbrev pub Spared : ℕ → ℕ → Type 0
   Spared d i = (k : ℕ) → k < d → Outside (entries_in_use g k) (other_entry s g k) i
 
-  pub mended_spared : (d : ℕ) → d ≤ directory_entries_of g → (i : ℕ) → Spared d i → get_or (mended_below s g d) i 0 ≡ get_or s i 0
+  pub mended_spared : (d : ℕ) → d ≤ directory_entries_of g → (i : ℕ) → Spared d i
+      → get_or (mended_below s g d) i 0 ≡ get_or s i 0
   unfolding mended_below
   mended_spared zero l i o = refl
   mended_spared (suc d) l i o =
-      over_table_outside s (mended_below s g d) (entries_in_use g d) _ _ (mended_long d (omega arith)) (good_room d (omega arith))
+      over_table_outside s (mended_below s g d) (entries_in_use g d) _ _ (mended_long d (omega arith))
+      (good_room d (omega arith))
       (other_room d (omega arith)) i (o d (omega arith))
       ∙ mended_spared d (omega arith) i (λ k b. o k (omega arith))
 

@@ -6,7 +6,8 @@ use mathlib.Core.Bool.{Bool, false}
 use native.Mathlib.Omega.{arith}
 use Rattle.base.specs.Pick.{pick}
 use Rattle.format.specs.Areas.{areas, meet}
-use Rattle.format.specs.Check.{misplaced, lowest_past, lowest_bad_marker, copies_differ, unless_grain, check_apart, check_copies}
+use Rattle.format.specs.Check.{misplaced, lowest_past, lowest_bad_marker, copies_differ, unless_grain, check_apart}
+use Rattle.format.specs.Check.{check_copies}
 use Rattle.format.specs.Check.{check_grains, check_layout, check_from}
 use Rattle.format.specs.declared.Header.{Header}
 use Rattle.format.specs.declared.Lowest.{Lowest}

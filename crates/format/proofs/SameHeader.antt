@@ -3,7 +3,7 @@
 use Prim.Native.Nat.{ℕ, ◌+◌, ◌≤◌}
 use mathlib.Core.Path.{◌≡◌, refl, sym, ◌∙◌}
 use mathlib.Core.List.{List}
-use mathlib.Core.Bool.{true, false, true≢false}
+use mathlib.Core.Bool.{true, true≢false}
 use native.Mathlib.Omega.{arith}
 use lib.ListN.{length}
 use Rattle.base.specs.Numbers.{le_at}
@@ -13,9 +13,11 @@ use Rattle.base.specs.Bytes.{zeros}
 use Rattle.base.proofs.Over.{zeros_length}
 use Rattle.base.proofs.Steps.{pick_both}
 use Rattle.format.specs.Geometry.{file_sectors, bytes_at}
-use Rattle.format.specs.Kdmv.{kdmv_magic, newline_bytes, kdmv_fields, at_end, footer_at, last_at, footer_directory, footer_broken}
+use Rattle.format.specs.Kdmv.{kdmv_magic, newline_bytes, kdmv_fields, at_end, footer_at, last_at, footer_directory}
+use Rattle.format.specs.Kdmv.{footer_broken}
 use Rattle.format.specs.Cowd.{cowd_magic, cowd_fields}
-use Rattle.format.specs.Header.{kdmv_header, cowd_header, directory_of, header_of, with_footer, judge_kdmv, kind_gone, judge_cowd}
+use Rattle.format.specs.Header.{kdmv_header, cowd_header, directory_of, header_of, with_footer, judge_kdmv, kind_gone}
+use Rattle.format.specs.Header.{judge_cowd}
 use Rattle.format.specs.Header.{judge_of, judge}
 use Rattle.format.specs.declared.Taken.TheVariants.{KdmvAlone}
 use Rattle.format.specs.declared.Header.{Header}

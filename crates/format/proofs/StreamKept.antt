@@ -13,7 +13,8 @@ use Rattle.format.specs.Geometry.{file_sectors}
 use Rattle.format.specs.Header.{grains_of}
 use Rattle.format.specs.Entries.{marker_first, marker_size, grain_sectors}
 use Rattle.format.specs.Areas.{area, ends_past}
-use Rattle.format.specs.Stream.{if_whole, out_of_order, stream_grain, marker_type, stream_other, block_at, KeptGrain, kept_grain}
+use Rattle.format.specs.Stream.{if_whole, out_of_order, stream_grain, marker_type, stream_other, block_at, KeptGrain}
+use Rattle.format.specs.Stream.{kept_grain}
 use Rattle.format.specs.Stream.{walk_on, walk}
 use Rattle.format.specs.declared.Header.{Header}
 use Rattle.format.specs.declared.closing.Block.{Block}

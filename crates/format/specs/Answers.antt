@@ -29,14 +29,14 @@ use Rattle.format.specs.declared.SurveyAnswer.TheVariants.{Surveyed as surveyed_
 use Rattle.format.specs.declared.MarkedAnswer.{MarkedAnswer}
 use Rattle.format.specs.declared.MendAnswer.{MendAnswer}
 use Rattle.format.specs.declared.MendAnswer.TheVariants.{Mended as mended_in, Refused as mend_refused}
-use Rattle.format.specs.declared.Verdict.{Verdict}
-use Rattle.format.specs.declared.Marked.{Marked}
-use Rattle.format.specs.declared.Located.{Located}
-use Rattle.format.specs.declared.Written.{Written}
-use Rattle.format.specs.declared.Framed.{Framed}
-use Rattle.format.specs.declared.Surveyed.{Surveyed}
-use Rattle.format.specs.declared.Mended.{Mended}
-use Rattle.format.specs.declared.Head.{Head}
+use Rattle.format.specs.declared.numbers.Verdict.{Verdict}
+use Rattle.format.specs.declared.numbers.Marked.{Marked}
+use Rattle.format.specs.declared.numbers.Located.{Located}
+use Rattle.format.specs.declared.numbers.Written.{Written}
+use Rattle.format.specs.declared.numbers.Framed.{Framed}
+use Rattle.format.specs.declared.numbers.Surveyed.{Surveyed}
+use Rattle.format.specs.declared.numbers.Mended.{Mended}
+use Rattle.format.specs.declared.numbers.Head.{Head}
 use Rattle.format.specs.declared.closing.CloseAnswer.{CloseAnswer}
 use Rattle.format.specs.declared.closing.CloseAnswer.TheVariants.{Closed as closed_in, Refused as close_refused}
 use Rattle.format.specs.declared.closing.Closed.{Closed}

@@ -44,7 +44,7 @@ unfoldable pub check_in_room : List ℕ → ℕ → CheckAnswer
 check_in_room s room = pick (came_to_marking (check s) && ltb room (words_needed s)) (Refused TooLittleRoom) (check s)
 
 -- after acceptance and 12 the sectors of the areas before the first that meets an earlier one (after acceptance none does, so
--- the sum of all: law `Marked-All`), and 0 on every other refusal
+-- the sum of all: law `marked_all`), and 0 on every other refusal
 unfoldable pub with_marked : List ℕ → CheckAnswer → MarkedAnswer
 with_marked s a = record { checked = a; marked = pick (came_to_marking a) (marked_sectors (areas s (header_of s))) 0 }
 

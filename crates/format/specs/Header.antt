@@ -121,9 +121,11 @@ abbrev pub start_of : List ℕ → Header
 start_of s = kdmv_header (kdmv_fields s) (kdmv_fields s).directory
 
 unfoldable pub judge_kdmv_start : List ℕ → HeaderAnswer
-judge_kdmv_start s = pick (ltb (length s) 512) (Refused TooShort) (unless_fault (kdmv_fault (kdmv_fields s)) (Known (start_of s)))
+judge_kdmv_start s = pick (ltb (length s) 512) (Refused TooShort)
+    (unless_fault (kdmv_fault (kdmv_fields s)) (Known (start_of s)))
 
 unfoldable pub judge_start : List ℕ → HeaderAnswer
 judge_start s =
     pick (ltb (length s) 4) (Refused TooShort)
-    (pick (same_at s 0 kdmv_magic) (judge_kdmv_start s) (pick (same_at s 0 cowd_magic) (judge_cowd KdmvAlone s) (Refused Magic)))
+    (pick (same_at s 0 kdmv_magic) (judge_kdmv_start s)
+    (pick (same_at s 0 cowd_magic) (judge_cowd KdmvAlone s) (Refused Magic)))

@@ -62,7 +62,8 @@ at_end k = eqb k.directory all_ones
 -- 5: no bit but the five; compression is 1 exactly when 0x10000 is set, else 0; 0x20000 needs 0x10000; 0x2 needs a redundant
 -- directory; 0x4 needs version 2 or 3; a directory at the end needs 0x20000
 abbrev pub other_flags : ℕ → Bool
-other_flags f = not (eqb f (flag_value f 0x1 + flag_value f 0x2 + flag_value f 0x4 + flag_value f 0x10000 + flag_value f 0x20000))
+other_flags f = not (eqb f (flag_value f 0x1 + flag_value f 0x2 + flag_value f 0x4 + flag_value f 0x10000 + flag_value f
+    0x20000))
 
 abbrev pub flags_broken : KdmvFields → Bool
 flags_broken k =

@@ -33,7 +33,8 @@ unfoldable pub tables_at : Kind → ℕ → ℕ → ℕ
 tables_at kind capacity grain_size = head_sectors kind + directory_sectors (table_count kind capacity grain_size)
 
 unfoldable pub tables_end : Kind → ℕ → ℕ → ℕ
-tables_end kind capacity grain_size = tables_at kind capacity grain_size + sectors_per_table kind * table_count kind capacity grain_size
+tables_end kind capacity grain_size = tables_at kind capacity grain_size + sectors_per_table kind * table_count kind
+    capacity grain_size
 
 -- V: the first sector after the tables, in KDMV rounded up to a multiple of grain size, in COWD with no rounding
 unfoldable pub sector_v : Kind → ℕ → ℕ → ℕ
@@ -46,7 +47,8 @@ sector_of kind capacity grain_size m g = sector_v kind capacity grain_size + sto
 
 -- the file's length in sectors: V + stored grains x grain size
 unfoldable pub sectors_laid : Kind → ℕ → ℕ → Map → ℕ
-sectors_laid kind capacity grain_size m = sector_v kind capacity grain_size + stored_below m (grains capacity grain_size) * grain_size
+sectors_laid kind capacity grain_size m = sector_v kind capacity grain_size + stored_below m (grains capacity grain_size)
+    * grain_size
 
 -- ---- entries: unused ones are 0. Each sector here is below 2^32, so four bytes hold it
 abbrev pub directory_entry : Kind → ℕ → ℕ → ℕ → ℕ

@@ -15,7 +15,7 @@ use Rattle.format.specs.declared.MisplacedPart.TheVariants.{Directory, PrimaryTa
 use Rattle.format.specs.declared.Refusal.TheVariants.{Misplaced, GrainPast, Marker, SectorPast}
 use Rattle.format.specs.declared.HeaderAnswer.{HeaderAnswer}
 use Rattle.format.specs.declared.HeaderAnswer.TheVariants.{Known, Refused as header_refused}
-use Rattle.format.specs.declared.Part.{Part}
+use Rattle.format.specs.declared.numbers.Part.{Part}
 use Rattle.format.specs.declared.LookupAnswer.{LookupAnswer}
 use Rattle.format.specs.declared.LookupAnswer.TheVariants.{Found, Refused}
 

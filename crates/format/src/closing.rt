@@ -2,7 +2,7 @@
 use crate::Refusal;
 
 // What stands at a sector of a stream.
-#[derive(Drop)]
+#[derive(Clone, Copy)]
 pub enum Block {
     Stop,
     // A table or a directory with its marker, of so many sectors.
@@ -10,7 +10,7 @@ pub enum Block {
     Grain { number: u64, sectors: u64 },
 }
 
-#[derive(Drop)]
+#[derive(Clone, Copy)]
 pub enum CloseAnswer {
     // Kept sectors, kept grains, and the tail's length in bytes.
     Closed {
@@ -23,7 +23,7 @@ pub enum CloseAnswer {
 
 // The same in numbers: number 0 is an answer, and what does not apply is 0.
 #[repr(C)]
-#[derive(Drop)]
+#[derive(Clone, Copy)]
 pub struct Closed {
     pub number: u64,
     pub place: u64,

@@ -1,9 +1,14 @@
 // The types that all calls pass round. What they mean is document 01, section by section, in specs/.
+#![tactic(auto)]
+
 pub mod closing;
+pub mod numbers;
 pub mod steps;
 
+pub use numbers::{Framed, Head, Located, Marked, Mended, Part, Surveyed, Verdict, Written};
+
 // Sector 0 of a KDMV image, field by field.
-#[derive(Drop)]
+#[derive(Clone, Copy)]
 pub struct KdmvFields {
     pub version: u64,
     pub flags: u64,
@@ -21,7 +26,7 @@ pub struct KdmvFields {
 }
 
 // The header of a COWD image, field by field.
-#[derive(Drop)]
+#[derive(Clone, Copy)]
 pub struct CowdFields {
     pub version: u64,
     pub capacity: u64,
@@ -32,7 +37,7 @@ pub struct CowdFields {
 }
 
 // What a call has to know of a header that was judged, of either kind. It is made in one place.
-#[derive(Drop)]
+#[derive(Clone, Copy)]
 pub struct Header {
     pub cowd: bool,
     pub capacity: u64,
@@ -56,7 +61,7 @@ pub struct Header {
 }
 
 // The parts that 8 judges, in the order of their places.
-#[derive(Drop)]
+#[derive(Clone, Copy)]
 pub enum MisplacedPart {
     Descriptor,
     Directory,
@@ -67,7 +72,7 @@ pub enum MisplacedPart {
 
 // Why a call on images refuses, in the order of its numbers: 1 to 12, 20 to 24, 27, 40 to 44, 47. A case holds the part,
 // the grain or the byte that is its place.
-#[derive(Drop)]
+#[derive(Clone, Copy)]
 pub enum Refusal {
     TooShort,
     Magic,
@@ -96,35 +101,35 @@ pub enum Refusal {
 }
 
 // As an image of which kind grains are written.
-#[derive(Drop)]
+#[derive(Clone, Copy)]
 pub enum Kind {
     Kdmv,
     Cowd,
 }
 
 // Images of which kinds a call takes. Only the moves take COWD.
-#[derive(Drop)]
+#[derive(Clone, Copy)]
 pub enum Taken {
     KdmvAlone,
     Either,
 }
 
 // Whose tables are good where the two directories' tables differ.
-#[derive(Drop)]
+#[derive(Clone, Copy)]
 pub enum Side {
     Primary,
     Redundant,
 }
 
 // What judging a part of an image finds.
-#[derive(Drop)]
+#[derive(Clone, Copy)]
 pub enum Fault {
     None,
     Found(Refusal),
 }
 
 // What an entry of a directory or table means.
-#[derive(Drop)]
+#[derive(Clone, Copy)]
 pub enum Entry {
     Absent,
     Zero,
@@ -132,14 +137,14 @@ pub enum Entry {
 }
 
 // The lowest grain that breaks a rule, or none.
-#[derive(Drop)]
+#[derive(Clone, Copy)]
 pub enum Lowest {
     None,
     Grain(u64),
 }
 
 // Where a virtual sector comes from.
-#[derive(Drop)]
+#[derive(Clone, Copy)]
 pub enum Source {
     Absent,
     Zero,
@@ -149,14 +154,14 @@ pub enum Source {
 }
 
 // The source of a sector and the layer of a chain, from 0 at the base, that has it.
-#[derive(Drop)]
+#[derive(Clone, Copy)]
 pub struct LayerSource {
     pub layer: u64,
     pub source: Source,
 }
 
 // Grains by kind, of several images.
-#[derive(Drop)]
+#[derive(Clone, Copy)]
 pub struct Totals {
     pub stored: u64,
     pub zero: u64,
@@ -165,7 +170,7 @@ pub struct Totals {
 }
 
 // What a survey tells of an image: its grains by kind, or its refusal's number and place.
-#[derive(Drop)]
+#[derive(Clone, Copy)]
 pub struct Row {
     pub stored: u64,
     pub zero: u64,
@@ -176,51 +181,51 @@ pub struct Row {
 }
 
 // What each call answers.
-#[derive(Drop)]
+#[derive(Clone, Copy)]
 pub enum HeaderAnswer {
     Known(Header),
     Refused(Refusal),
 }
 
-#[derive(Drop)]
+#[derive(Clone, Copy)]
 pub enum CheckAnswer {
     Accepted { capacity: u64, grain_size: u64 },
     Refused(Refusal),
 }
 
-#[derive(Drop)]
+#[derive(Clone, Copy)]
 pub enum LookupAnswer {
     Found(Source),
     Refused(Refusal),
 }
 
-#[derive(Drop)]
+#[derive(Clone, Copy)]
 pub enum ChainAnswer {
     Found(LayerSource),
     Refused { layer: u64, refusal: Refusal },
 }
 
-#[derive(Drop)]
+#[derive(Clone, Copy)]
 pub enum CollapseAnswer {
     // The result's length in bytes.
     Written(u64),
     Refused(Refusal),
 }
 
-#[derive(Drop)]
+#[derive(Clone, Copy)]
 pub enum FrameAnswer {
     // How many areas the list tells of.
     Listed(u64),
     Refused(Refusal),
 }
 
-#[derive(Drop)]
+#[derive(Clone, Copy)]
 pub enum SurveyAnswer {
     Surveyed(Totals),
     Refused(Refusal),
 }
 
-#[derive(Drop)]
+#[derive(Clone, Copy)]
 pub enum MendAnswer {
     // How many entries differed.
     Mended(u64),
@@ -228,101 +233,8 @@ pub enum MendAnswer {
 }
 
 // The check in a lent list: its answer, and how many sectors it marked.
-#[derive(Drop)]
+#[derive(Clone, Copy)]
 pub struct MarkedAnswer {
     pub checked: CheckAnswer,
     pub marked: u64,
-}
-
-// The same in numbers, as document 01 has them: number 0 is an answer, and what does not apply is 0.
-#[repr(C)]
-#[derive(Drop)]
-pub struct Verdict {
-    pub number: u64,
-    pub place: u64,
-    pub capacity: u64,
-    pub grain_size: u64,
-}
-
-// The check in a lent list, with the sectors that it marked.
-#[repr(C)]
-#[derive(Drop)]
-pub struct Marked {
-    pub number: u64,
-    pub place: u64,
-    pub capacity: u64,
-    pub grain_size: u64,
-    pub marked: u64,
-}
-
-// kind: 0 absent, 1 zero, 2 stored, 3 packed.
-#[repr(C)]
-#[derive(Drop)]
-pub struct Located {
-    pub number: u64,
-    pub layer: u64,
-    pub place: u64,
-    pub kind: u64,
-    pub sector: u64,
-    pub size: u64,
-    pub offset: u64,
-}
-
-#[repr(C)]
-#[derive(Drop)]
-pub struct Written {
-    pub number: u64,
-    pub place: u64,
-    pub length: u64,
-}
-
-// The areas of an image but its grains.
-#[repr(C)]
-#[derive(Drop)]
-pub struct Framed {
-    pub number: u64,
-    pub place: u64,
-    pub count: u64,
-}
-
-// How many entries of the two sides' tables differed.
-#[repr(C)]
-#[derive(Drop)]
-pub struct Mended {
-    pub number: u64,
-    pub place: u64,
-    pub count: u64,
-}
-
-// Grains by kind, of all images that are accepted.
-#[repr(C)]
-#[derive(Drop)]
-pub struct Surveyed {
-    pub number: u64,
-    pub place: u64,
-    pub stored: u64,
-    pub zero: u64,
-    pub absent: u64,
-    pub packed: u64,
-}
-
-// A header judged alone, with the descriptor's numbers and the dirty number as it has them.
-#[repr(C)]
-#[derive(Drop)]
-pub struct Head {
-    pub number: u64,
-    pub place: u64,
-    pub capacity: u64,
-    pub grain_size: u64,
-    pub descriptor: u64,
-    pub descriptor_sectors: u64,
-    pub dirty: u64,
-}
-
-// The bytes of an image that the grain reader hands back: both 0 where there are none.
-#[repr(C)]
-#[derive(Drop)]
-pub struct Part {
-    pub at: u64,
-    pub length: u64,
 }

@@ -1,7 +1,7 @@
 // How a lookup comes to its answer, and the same in numbers.
 
 // What stands on the way to a sector's source; what was not reached is 0.
-#[derive(Drop)]
+#[derive(Clone, Copy)]
 pub struct Way {
     pub one_is_zero: bool,
     pub grain: u64,
@@ -14,7 +14,7 @@ pub struct Way {
 
 // The way and the lookup's answer: number 0 is an answer, and what does not apply is 0.
 #[repr(C)]
-#[derive(Drop)]
+#[derive(Clone, Copy)]
 pub struct Steps {
     pub number: u64,
     pub place: u64,

@@ -14,7 +14,8 @@ use Rattle.format.specs.Areas.{header_area, descriptor_area, directory_area, red
 use Rattle.format.specs.Areas.{footer_area, last_area}
 use Rattle.format.specs.Check.{misplaced, lowest_misplaced}
 use Rattle.format.specs.Judged.{Placed}
-use Rattle.format.specs.Frame.{told, frame_words, frame_areas, frame_count, listed_if_room, frame_from, frame, list_after, frame_list}
+use Rattle.format.specs.Frame.{told, frame_words, frame_areas, frame_count, listed_if_room, frame_from, frame, list_after}
+use Rattle.format.specs.Frame.{frame_list}
 use Rattle.format.specs.declared.Header.{Header}
 use Rattle.format.specs.declared.MisplacedPart.{MisplacedPart}
 use Rattle.format.specs.declared.Refusal.{Refusal}

@@ -1,4 +1,6 @@
 // The frame: the areas of an image but its grains, counted, and told in a lent list that has room for them.
+#![tactic(auto)]
+
 ghost use Rattle.std.specs.Prelude.{◌≡◌, [], ℕ, ◌+◌, ◌*◌, ◌≤◌, length};
 ghost use Rattle.base.specs.Pick.{pick};
 ghost use Rattle.format.specs.Header.{directory_entries_of, judge};

@@ -1,4 +1,6 @@
 // The areas of an image but its grains, put into a lent list of words: three words an area.
+#![tactic(auto)]
+
 ghost use Rattle.std.specs.Prelude.{◌≡◌, [], ◌∷◌, ◌++◌, ◌+◌, ◌*◌, ◌≤◌, length};
 ghost use Rattle.format.specs.Header.{directory_entries_of};
 ghost use Rattle.format.specs.Areas.{area, if_there, named, table_areas, redundant_tables};
@@ -56,7 +58,8 @@ fn put_tables(
     n: u64,
 ) -> usize
     requires n_in_bounds { 512 * directory + 4 * n ≤ length image.now }
-    requires n_in_bounds_2 { at + length (told group (table_areas image.now one_is_zero sectors directory n)) ≤ length list.old }
+    requires n_in_bounds_2 { at + length (told group (table_areas image.now one_is_zero sectors directory n)) ≤ length
+        list.old }
     ensures { WordsPut (told group (table_areas image.now one_is_zero sectors directory n)) list.old at
         list.new result }
 {

@@ -53,7 +53,8 @@ regroup f p q r s t z y x e = rw e (simp append_assoc)
 header_is : (c n : ℕ) → header_front c n ++ header_back (sector_v Kdmv c n) ≡ header_bytes Kdmv c n 0
 unfolding header_front header_back header_bytes rows
 header_is c n =
-    regroup (header_front c n) (le_bytes 8 0) (le_bytes 8 1) (le_bytes 8 (sector_v Kdmv c n)) (zeros 1) newline_bytes (zeros 435)
+    regroup (header_front c n) (le_bytes 8 0) (le_bytes 8 1) (le_bytes 8 (sector_v Kdmv c n)) (zeros 1) newline_bytes
+    (zeros 435)
     (le_bytes 2 0) (zeros 433) two_zeros
 
 pub header_join : (d x y : List ℕ) (c n v : ℕ) → y ≡ over x 48 (header_back v) → x ≡ over d 0 (header_front c n)

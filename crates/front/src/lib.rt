@@ -1,4 +1,6 @@
 // What stands before the grains of an image of either kind, written into lent output. What was written is not read again.
+#![tactic(auto)]
+
 ghost use Rattle.std.specs.Prelude.{◌≡◌, ◌+◌, ◌*◌, ◌≤◌, length};
 ghost use Rattle.base.specs.Bytes.{over};
 ghost use Rattle.base.specs.Rows.{entry_bytes};

@@ -23,7 +23,8 @@ use Rattle.entries.proofs.EntriesRead.{grain_read}
 -- the rule that is judged, of grain g and its entry: 10 of markers, else 9
 abbrev pub broken : List ℕ → Bool → Bool → ℕ → ℕ → Entry → Bool
 broken s markers packed size g entry =
-    pick markers (packed && marker_broken_at s size g entry) (runs_past (file_sectors s) (named (grain_sectors s packed size) entry))
+    pick markers (packed && marker_broken_at s size g entry)
+    (runs_past (file_sectors s) (named (grain_sectors s packed size) entry))
 
 -- of a grain by its number
 abbrev pub rule_of : List ℕ → Header → Bool → ℕ → Bool

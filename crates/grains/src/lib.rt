@@ -1,4 +1,6 @@
 // Refusals 9 and 10 with the lowest grain number: one walk over directory and table entries, left at the first entry at fault.
+#![tactic(auto)]
+
 ghost use Rattle.std.specs.Prelude.{◌≡◌, false, ◌&&◌, ℕ, ◌+◌, ◌≤◌, ◌<◌, ltb};
 ghost use Rattle.base.specs.Pick.{pick};
 ghost use Rattle.format.specs.Geometry.{file_sectors};

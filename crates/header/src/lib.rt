@@ -1,4 +1,6 @@
 // Judging a header: refusals 1 to 7 and 43, of both kinds, and the one record that all calls pass round.
+#![tactic(auto)]
+
 ghost use Rattle.std.specs.Prelude.{◌≡◌};
 ghost use Rattle.format.specs.Header.{judge_of, judge, judge_start};
 ghost use Rattle.format.specs.Chain.{unlike};

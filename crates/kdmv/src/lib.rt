@@ -1,7 +1,10 @@
 // A KDMV header, sector 0: refusals 1 and 3 to 7.
+#![tactic(auto)]
+
 ghost use Rattle.std.specs.Prelude.{◌≡◌, ◌≤◌, length};
 ghost use Rattle.base.specs.Numbers.{le_at};
-ghost use Rattle.format.specs.Kdmv.{kdmv_fields, version_broken, newline_broken, other_flags, flags_broken, at_end, kdmv_sizes_broken};
+ghost use Rattle.format.specs.Kdmv.{kdmv_fields, version_broken, newline_broken, other_flags, flags_broken, at_end};
+ghost use Rattle.format.specs.Kdmv.{kdmv_sizes_broken};
 ghost use Rattle.format.specs.Kdmv.{kdmv_fault};
 ghost use Rattle.format.specs.Header.{kdmv_one_is_zero, kdmv_header, directory_of, with_footer, judge_kdmv, judge_kdmv_start};
 ghost use Rattle.format.specs.Judged.{Sized};

@@ -1,5 +1,7 @@
 // The grains of each kind of an image, counted over directory and table entries. A directory entry that names no table counts
 // its grains at once, so that an empty disk costs a walk over its directory.
+#![tactic(auto)]
+
 ghost use Rattle.std.specs.Prelude.{◌≡◌, ℕ, ◌+◌, ◌*◌, ◌≤◌, ◌<◌, length};
 ghost use Rattle.format.specs.Header.{grains_of};
 ghost use Rattle.format.specs.Entries.{in_table, meaning_at, grain_entry};
@@ -12,7 +14,7 @@ use format::{Entry, Header};
 use sizes::{entries_in_use, grains_of};
 
 // Grains by what their entries mean.
-#[derive(Drop)]
+#[derive(Clone, Copy)]
 pub struct Kinds {
     pub absent: u64,
     pub zero: u64,

@@ -57,5 +57,6 @@ module _ (s : List ℕ) (h : Header) where
   unfolding copies_differ
   kept_copies f =
       ⊎_elim (λ z. pick_then _ _ _ z)
-      (λ n. pick_else _ _ _ n ∙ no_some (entry_differs s h) (directory_entries_of h) (λ d l. kept_copy (f (eqb-false _ _ n) d l)))
+      (λ n. pick_else _ _ _ n ∙ no_some (entry_differs s h) (directory_entries_of h)
+      (λ d l. kept_copy (f (eqb-false _ _ n) d l)))
       (true_or_false (eqb h.redundant 0))

@@ -7,7 +7,7 @@ use mathlib.Core.Logic.{⊎_elim}
 use mathlib.Core.Bool.{Bool, true, false, ◌&&◌, true≢false}
 use native.Mathlib.Omega.{arith}
 use native.Mathlib.Nat.{zero-add}
-use lib.Dec.{ltb, eqb}
+use lib.Dec.{ltb}
 use lib.ListN.{length, get_or}
 use borrow.Author.Tests.{lt-ltb, ltb-true, ne_eqb}
 use Rattle.base.specs.Pick.{pick}
@@ -64,7 +64,8 @@ module _ (s : List ℕ) (room : ℕ) where
 
   -- ---- 21
   -- exactly where the plain check accepts or refuses 12, and the list has fewer words than are needed
-  pub short_refused : came_to_marking (check s) ≡ true → room < words_needed s → (check_in s room).checked ≡ Refused TooLittleRoom
+  pub short_refused : came_to_marking (check s) ≡ true → room < words_needed s
+      → (check_in s room).checked ≡ Refused TooLittleRoom
   unfolding check_in_room with_marked pick
   short_refused c l = rw (c, lt-ltb room (words_needed s) l)
 

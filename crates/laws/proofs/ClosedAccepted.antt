@@ -14,7 +14,8 @@ use Rattle.format.specs.Geometry.{file_sectors}
 use Rattle.format.specs.Header.{kdmv_header, start_of, grains_of, directory_entries_of}
 use Rattle.format.specs.Entries.{meaning, meaning_at, grain_entry, grain_sectors, marker_first, marker_size}
 use Rattle.format.specs.Areas.{Area, area, if_there, named, header_area, descriptor_area, directory_area, redundant_area}
-use Rattle.format.specs.Areas.{primary_tables, redundant_tables, footer_area, last_area, grain_area, grain_areas, areas, runs_past}
+use Rattle.format.specs.Areas.{primary_tables, redundant_tables, footer_area, last_area, grain_area, grain_areas, areas}
+use Rattle.format.specs.Areas.{runs_past}
 use Rattle.format.specs.Areas.{holders, Apart}
 use Rattle.format.specs.Check.{check}
 use Rattle.format.specs.Accepted.{AreaRules, AcceptedKdmv}

@@ -44,7 +44,8 @@ module _ (s : List ℕ) (z : Closing s) where
   abbrev after : ℕ → ℕ
   after d = kept_sectors s (start_of s) + 5 * tables_below (kept_grains s (start_of s)) d
 
-  last_none : (next m : ℕ) → walk (closed_image s) (start_of s) m (closed_directory s + (start_of s).directory_sectors) next ≡ []
+  last_none : (next m : ℕ) → walk (closed_image s) (start_of s) m (closed_directory s + (start_of s).directory_sectors) next
+      ≡ []
   last_none next m =
       let t = footer_marker s (start_of s) _ _ z.started.long (tail_stands s z) in
       stop_none (closed_image s) (start_of s) _ next

@@ -13,12 +13,12 @@ use lib.Seq.{take_at, drop_at}
 use borrow.Author.Tests.{ltb-false, le-ltb}
 use Rattle.base.specs.Pick.{pick}
 use Rattle.base.specs.Bytes.{over}
-use Rattle.base.proofs.Steps.{or_no, cond_all}
+use Rattle.base.proofs.Steps.{cond_all}
 use Rattle.base.proofs.Over.{over_length}
 use Rattle.format.specs.Header.{start_of, judge_start}
 use Rattle.format.specs.Check.{check}
 use Rattle.format.specs.Stream.{kept_grains, kept_sectors}
-use Rattle.format.specs.Close.{no_stream, not_closable, tail_of, tail_length, closed_image, close_from, close_judged, close}
+use Rattle.format.specs.Close.{not_closable, tail_of, tail_length, closed_image, close_from, close_judged, close}
 use Rattle.format.specs.Close.{tail_written, close_output}
 use Rattle.format.specs.Answers.{number}
 use Rattle.format.specs.declared.Header.{Header}
@@ -94,7 +94,8 @@ module _ (s : List ℕ) where
 
   -- and the other way: a start that is not refused 1 to 6 or 41 is closed where the tail has room
   pub closed_room : Closable s → (room : ℕ) → length (tail_of s (start_of s)) ≤ room
-      → close s room ≡ Closed (kept_sectors s (start_of s)) (length (kept_grains s (start_of s))) (length (tail_of s (start_of s)))
+      → close s room ≡ Closed (kept_sectors s (start_of s)) (length (kept_grains s (start_of s)))
+      (length (tail_of s (start_of s)))
   unfolding close_from close_judged
   closed_room c room fits =
       rw (c.known, pick_else _ (Refused _) _ c.closable)

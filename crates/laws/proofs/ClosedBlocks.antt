@@ -71,7 +71,8 @@ module _ (s : List ℕ) (h : Header) (p next : ℕ) (here : p < file_sectors s) 
 
 -- what holds of a stop, of other blocks and of grains
 block_all : (P : Block → Type 0) (s : List ℕ) (h : Header) (p next : ℕ) → P Stop
-    → (eqb (marker_size s p) 0 ≡ true → P (stream_other s h p)) → (eqb (marker_size s p) 0 ≡ false → P (stream_grain s h p next))
+    → (eqb (marker_size s p) 0 ≡ true → P (stream_other s h p))
+    → (eqb (marker_size s p) 0 ≡ false → P (stream_grain s h p next))
     → P (block_at s h p next)
 unfolding block_at
 block_all P s h p next stop other grain =

@@ -17,7 +17,7 @@ use Rattle.format.specs.Close.{closed_image}
 use Rattle.format.specs.declared.Header.{Header}
 use Rattle.format.specs.declared.Entry.TheVariants.{Absent, Sector}
 use Rattle.format.proofs.StreamKept.{WholeGrain, Ascends}
-use Rattle.format.proofs.StreamKept.Ascends.{some}
+use Rattle.format.proofs.StreamKept.Ascends.{none, some}
 use Rattle.format.proofs.StreamEntries.{entry_first, entry_other}
 use Rattle.laws.specs.Closed.{Among, first, later, closed_header}
 use Rattle.laws.proofs.LayoutBack.{sector_told}
@@ -35,6 +35,7 @@ module _ (s : List ℕ) (h : Header) where
   pub among_lies : {p next : ℕ} {l : List KeptGrain} {k : KeptGrain} → Ascends s h p next l → Among k l
       → Lies s h p next (grains_end p l) k
   unfolding grains_end
+  among_lies (none {p = p} {next = next}) x5 = elim x5 [ ]
   among_lies (some e n w a) first = record { whole = w; from = e; above = n; to = end_late s h a }
   among_lies (some {k = j} e n w a) (later m) =
       let r = among_lies a m in
@@ -43,6 +44,7 @@ module _ (s : List ℕ) (h : Header) where
   -- its number is its own, so its entry is its sector
   pub among_entry : {p next : ℕ} {l : List KeptGrain} {k : KeptGrain} → Ascends s h p next l → Among k l
       → kept_entry l k.number ≡ k.sector
+  among_entry (none {p = p} {next = next}) x5 = elim x5 [ ]
   among_entry (some {k = k} {l = l} e n w a) first = entry_first k l
   among_entry {k = k} (some {k = j} {l = l} e n w a) (later m) =
       entry_other j l k.number (omega (arith, (among_lies a m).above)) ∙ among_entry a m

@@ -27,7 +27,8 @@ module _ {c : List ℕ} {at : ℕ} (l : List KeptGrain) (d : ℕ) (there : has_g
   marker_first_lem : Stands c at (marker_bytes 4 1)
   marker_first_lem =
       stands_at _ (omega arith)
-      (stands_in both_stand (stands_left (marker_bytes 4 1) (entry_bytes 512 (new_entry l d)) (stands_whole (marker_bytes 4 1))))
+      (stands_in both_stand (stands_left (marker_bytes 4 1) (entry_bytes 512 (new_entry l d))
+      (stands_whole (marker_bytes 4 1))))
 
   entries_then : Stands c (at + 512) (entry_bytes 512 (new_entry l d))
   entries_then =

@@ -20,7 +20,8 @@ use Rattle.format.specs.Kdmv.{kdmv_fields, kdmv_magic, kdmv_fault}
 use Rattle.format.specs.Header.{directory_entries_of, start_of, unless_fault, judge_kdmv_start, judge_start}
 use Rattle.format.specs.Check.{descriptor_misplaced}
 use Rattle.format.specs.Stream.{overhead, KeptGrain, walk, kept_grains, grains_end, kept_sectors}
-use Rattle.format.specs.Tail.{new_directory, tail_sectors, marker_bytes, table_parts, new_directory_bytes, footer_bytes, tail_bytes}
+use Rattle.format.specs.Tail.{new_directory, tail_sectors, marker_bytes, table_parts, new_directory_bytes, footer_bytes}
+use Rattle.format.specs.Tail.{tail_bytes}
 use Rattle.format.specs.Close.{no_stream, walk_misplaced, tail_of, closed_image, close_from, close_judged}
 use Rattle.format.specs.Close.{close}
 use Rattle.format.specs.declared.Header.{Header}

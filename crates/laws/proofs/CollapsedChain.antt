@@ -10,7 +10,8 @@ use lib.Seq.{take-append_seam, drop-append-add}
 use borrow.Author.Tests.{le-ltb, le-leb, lt-leb, eq-eqb, ne_eqb}
 use Rattle.base.specs.Pick.{pick}
 use Rattle.format.specs.Header.{header_of, judge}
-use Rattle.format.specs.Chain.{lengths_sum, layer_at, lengths_broken, if_known, headers_down, layers_differ, unless_absent, walk_down}
+use Rattle.format.specs.Chain.{lengths_sum, layer_at, lengths_broken, if_known, headers_down, layers_differ, unless_absent}
+use Rattle.format.specs.Chain.{walk_down}
 use Rattle.format.specs.Chain.{walk, chain_lookup}
 use Rattle.format.specs.Grains.{Grain, absent, upper_unless_absent}
 use Rattle.format.specs.Collapse.{map_of}
@@ -89,7 +90,8 @@ module _ (s lengths : List ℕ) where
       record { answer = record { layer = k; source = Stored n }; is = refl; tells = tells_stored e l }
 
   module _ (x : ℕ) (f : ℕ → Grain) where
-    walked : (n : ℕ) → ((k : ℕ) → k < n → Looked (layer_at s lengths k) x (f k)) → Walked (walk_down s lengths x n) (topmost f n)
+    walked : (n : ℕ) → ((k : ℕ) → k < n → Looked (layer_at s lengths k) x (f k))
+        → Walked (walk_down s lengths x n) (topmost f n)
     unfolding walk_down topmost
     walked zero h = record { answer = record { layer = 0; source = Absent }; is = refl; tells = tells_absent }
     walked (suc n) h =
@@ -98,7 +100,8 @@ module _ (s lengths : List ℕ) where
 
   -- headers that are all known let the walk begin
   headers_known : (n : ℕ) (a : ChainAnswer)
-      → ((k : ℕ) → k < n → judge (layer_at s lengths k) ≡ Known (header_of (layer_at s lengths k))) → headers_down s lengths n a ≡ a
+      → ((k : ℕ) → k < n → judge (layer_at s lengths k) ≡ Known (header_of (layer_at s lengths k)))
+      → headers_down s lengths n a ≡ a
   unfolding headers_down if_known
   headers_known zero a h = refl
   headers_known (suc n) a h = rw (h n (omega arith)) (headers_known n a (λ k b. h k (omega arith)))

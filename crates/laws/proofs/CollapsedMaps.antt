@@ -19,7 +19,8 @@ use Rattle.format.proofs.Grains.{stored_same}
 use Rattle.laws.specs.Layers.{SameGrains}
 
 -- ---- a grain over another
-pub onto_assoc : (a b d : Grain) → upper_unless_absent (upper_unless_absent a b) d ≡ upper_unless_absent a (upper_unless_absent b d)
+pub onto_assoc : (a b d : Grain) → upper_unless_absent (upper_unless_absent a b) d ≡ upper_unless_absent a
+    (upper_unless_absent b d)
 unfolding upper_unless_absent
 onto_assoc a b absent = refl
 onto_assoc a b zeroed = refl

@@ -30,7 +30,8 @@ module _ {P : List ℕ → Type 0} where
 stack_append : (l k : List (List ℕ)) → map_of_layers (l ++ k) ≡ merge (map_of_layers l) (map_of_layers k)
 unfolding map_of_layers
 stack_append [] k = sym (merge_nothing (map_of_layers k))
-stack_append (s ∷ l) k = ap (merge (map_of s)) (stack_append l k) ∙ sym (merge_assoc (map_of s) (map_of_layers l) (map_of_layers k))
+stack_append (s ∷ l) k = ap (merge (map_of s)) (stack_append l k)
+    ∙ sym (merge_assoc (map_of s) (map_of_layers l) (map_of_layers k))
 
 pub some_layer : (t : Pairing) → 1 ≤ length (layers_of t)
 unfolding layers_of

@@ -37,7 +37,8 @@ sector_in o absent = absent
 sector_in o zeroed = zeroed
 sector_in o (stored b) = stored (bytes_at b (512 * o) 512)
 
-pub sector_onto : (o : ℕ) (a b : Grain) → sector_in o (upper_unless_absent a b) ≡ upper_unless_absent (sector_in o a) (sector_in o b)
+pub sector_onto : (o : ℕ) (a b : Grain) → sector_in o (upper_unless_absent a b) ≡ upper_unless_absent (sector_in o a)
+    (sector_in o b)
 unfolding sector_in upper_unless_absent
 sector_onto o a absent = refl
 sector_onto o a zeroed = refl

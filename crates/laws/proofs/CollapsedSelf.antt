@@ -8,7 +8,8 @@ use Rattle.base.specs.Pick.{pick}
 use Rattle.format.specs.Header.{header_of}
 use Rattle.format.specs.Check.{check}
 use Rattle.format.specs.Grains.{Map, merge}
-use Rattle.format.specs.Collapse.{map_of, if_accepted, not_collapsible, still_open, normal_from, normal, collapse_from, collapse}
+use Rattle.format.specs.Collapse.{map_of, if_accepted, not_collapsible, still_open, normal_from, normal, collapse_from}
+use Rattle.format.specs.Collapse.{collapse}
 use Rattle.format.specs.Collapse.{laid_out, output, normal_output, collapse_output}
 use Rattle.format.specs.declared.Header.{Header}
 use Rattle.format.specs.declared.CheckAnswer.{CheckAnswer}

@@ -17,7 +17,8 @@ use Rattle.format.specs.declared.Entry.{Entry}
 use Rattle.format.specs.declared.Entry.TheVariants.{Absent, Zero, Sector}
 use Rattle.format.specs.declared.Source.{Source}
 use Rattle.laws.specs.Layers.{Layer, Every, end_to_end, lengths_of, map_of_layers, Pairing, layers_of, paired_image}
-use Rattle.laws.specs.Coverage.{own_entry, one_if_sector, stored_grains, upper_entry, chain_entry, one_if_source, one_if_answered}
+use Rattle.laws.specs.Coverage.{own_entry, one_if_sector, stored_grains, upper_entry, chain_entry, one_if_source}
+use Rattle.laws.specs.Coverage.{one_if_answered}
 use Rattle.laws.proofs.CollapsedChain.{every_at, chain_walked}
 use Rattle.laws.proofs.CollapsedLayers.{layer_sizes}
 use Rattle.laws.proofs.LayoutNumbers.{some_size}

@@ -18,7 +18,8 @@ use Rattle.descriptor.specs.declared.State.{State}
 use Rattle.descriptor.specs.Text.{Span, lines, text_of, end_of, bytes_of}
 use Rattle.descriptor.specs.Words.{trim}
 use Rattle.descriptor.specs.Line.{line}
-use Rattle.descriptor.specs.Descriptor.{no_extent, start, refused, skipped, opened, added, noted, once, taken, judged_line, step}
+use Rattle.descriptor.specs.Descriptor.{no_extent, start, refused, skipped, opened, added, noted, once, taken, judged_line}
+use Rattle.descriptor.specs.Descriptor.{step}
 use Rattle.descriptor.specs.Descriptor.{extents_bad, missing, judged_end, ended, judged, judged_text, read_text}
 use Rattle.laws.proofs.ExtentsLaid.{Laid, laid_more}
 use Rattle.laws.proofs.ExtentsLines.{Starts, extent_at, line_starts}
@@ -108,7 +109,8 @@ unfolding ended judged_end
 ended_read st k =
     cond_all Read _ _ _
     (λ e. cond_all Read (missing st.values) _ _ (λ e. refused_read 33 0 st (lit< tt) k)
-    (λ e. cond_all Read (extents_bad st) _ _ (λ e. refused_read 35 0 st (lit< tt) k) (λ e. record { known = k; good = λ z. e })))
+    (λ e. cond_all Read (extents_bad st) _ _ (λ e. refused_read 35 0 st (lit< tt) k)
+    (λ e. record { known = k; good = λ z. e })))
     (λ e. refused_read 30 0 st (lit< tt) k)
 
 judged_read : (text : List ℕ) (st : State) (ls : List Span) → Known st → Read (judged text st ls)

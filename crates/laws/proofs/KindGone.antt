@@ -18,7 +18,8 @@ use Rattle.descriptor.specs.Records.{parsed}
 use Rattle.descriptor.specs.declared.Extent.{Extent}
 use Rattle.format.specs.Kdmv.{kdmv_magic}
 use Rattle.format.specs.Cowd.{cowd_magic, cowd_fields, cowd_fault}
-use Rattle.format.specs.Header.{cowd_header_of, unless_fault, judge_kdmv, kind_gone, judge_cowd, judge_of, judge, judge_kdmv_start}
+use Rattle.format.specs.Header.{cowd_header_of, unless_fault, judge_kdmv, kind_gone, judge_cowd, judge_of, judge}
+use Rattle.format.specs.Header.{judge_kdmv_start}
 use Rattle.format.specs.Header.{judge_start}
 use Rattle.format.specs.Check.{check_from, check}
 use Rattle.format.specs.CheckIn.{came_to_marking, check_in_room, with_marked, check_in, list_after_check}
@@ -61,7 +62,8 @@ module _ (s : List ℕ) (c : CowdFile s) where
 
   -- after 1 and 2, whatever its version and sizes are, and whatever KDMV would be judged by
   kind_judged : (k : HeaderAnswer) → pick (ltb (length s) 4) (unknown TooShort)
-      (pick (same_at s 0 kdmv_magic) k (pick (same_at s 0 cowd_magic) (judge_cowd KdmvAlone s) (unknown Magic))) ≡ unknown KindGone
+      (pick (same_at s 0 kdmv_magic) k (pick (same_at s 0 cowd_magic) (judge_cowd KdmvAlone s) (unknown Magic))) ≡ unknown
+      KindGone
   unfolding judge_cowd kind_gone
   kind_judged k =
       pick_else _ _ _ (le-ltb (length s) 4 (omega (arith, c.long)))

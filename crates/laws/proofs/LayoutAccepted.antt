@@ -84,7 +84,8 @@ module _ (kind : Kind) {c size : ℕ} (z : Sizes c size) (m : Map) where
         (between_rows (grains c size) _ (sector_of kind c size m) grain_between)
 
     -- header, directory, tables, the gap, grains
-    all_between : Between 0 (areas (layout_as kind c size m) (laid_header kind c size)) (sector_of kind c size m (grains c size))
+    all_between : Between 0 (areas (layout_as kind c size m) (laid_header kind c size))
+        (sector_of kind c size m (grains c size))
     unfolding areas if_there redundant_tables pick
     all_between =
         between_append heads _ 0 (tables_at kind c size) _ heads_between

@@ -16,7 +16,8 @@ use Rattle.base.proofs.Rows.{rows_at, entry_at_lem}
 use Rattle.format.specs.Geometry.{grains}
 use Rattle.format.specs.Entries.{entry_at, meaning, in_table, entry_of_grain, grain_entry}
 use Rattle.format.specs.Grains.{Grain, absent, zeroed, stored, Map, grain_from, bytes_of, entry_for, Whole}
-use Rattle.format.specs.Layout.{Fits, head_sectors, sectors_per_table, table_count, tables_at, sector_of, directory_entry, table_entry}
+use Rattle.format.specs.Layout.{Fits, head_sectors, sectors_per_table, table_count, tables_at, sector_of, directory_entry}
+use Rattle.format.specs.Layout.{table_entry}
 use Rattle.format.specs.Layout.{directory_bytes, table_bytes, grain_bytes, layout_as}
 use Rattle.format.specs.Collapse.{map_of}
 use Rattle.format.specs.declared.Kind.{Kind}
@@ -43,7 +44,8 @@ unfolding meaning pick
 sector_told true e h = rw (ne_eqb e 0 (omega arith), ne_eqb e 1 (omega arith))
 sector_told false e h = rw (ne_eqb e 0 (omega arith))
 
-entry_told_lem : (kind : Kind) (a : Grain) (v : ℕ) → Held kind a → 2 ≤ v → meaning (one_is_zero kind) (entry_for a v) ≡ entry_told a v
+entry_told_lem : (kind : Kind) (a : Grain) (v : ℕ) → Held kind a → 2 ≤ v → meaning (one_is_zero kind) (entry_for a v)
+    ≡ entry_told a v
 unfolding meaning entry_for entry_told pick
 entry_told_lem Kdmv absent v w h = refl
 entry_told_lem Kdmv zeroed v w h = refl
@@ -55,7 +57,8 @@ entry_told_lem kind (stored b) v w h = sector_told (one_is_zero kind) v h
 module _ (s : List ℕ) (b : Bool) (at first k n : ℕ) (late : 2 ≤ first)
     (named : (d : ℕ) → d < n → entry_at s at d ≡ first + k * d)
   where
-    pub flat_entry : (g : ℕ) → g / (128 * k) < n → entry_of_grain s b (128 * k) at g ≡ meaning b (le_at s (512 * first + 4 * g) 4)
+    pub flat_entry : (g : ℕ) → g / (128 * k) < n
+        → entry_of_grain s b (128 * k) at g ≡ meaning b (le_at s (512 * first + 4 * g) 4)
     unfolding entry_of_grain in_table
     flat_entry g h =
         let q = g / (128 * k) in
@@ -101,7 +104,8 @@ module _ (kind : Kind) {c size : ℕ} (z : Sizes c size) (m : Map) where
   pub entry_read : (g : ℕ) → g < grains c size → Held kind (m g)
       → grain_entry (layout_as kind c size m) (laid_header kind c size) g ≡ entry_told (m g) (sector_of kind c size m g)
   entry_read g h w =
-      flat_entry (layout_as kind c size m) (one_is_zero kind) (head_sectors kind) (tables_at kind c size) (sectors_per_table kind)
+      flat_entry (layout_as kind c size m) (one_is_zero kind) (head_sectors kind) (tables_at kind c size)
+      (sectors_per_table kind)
       (table_count kind c size) (tables_late kind z) table_read g (table_of kind z g h)
       ∙ ap (meaning (one_is_zero kind))
       (read_number 4 _ (entry_stands g h)

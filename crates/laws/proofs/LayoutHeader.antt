@@ -128,8 +128,20 @@ module _ {c size : ℕ} (z : Sizes c size) where
         let dirty : le_at s 72 1 ≡ 0 = read_number 1 0 (field 11 (lit< tt)) (lit< tt) in
         let newline : same_at s 73 newline_bytes ≡ true = read_same newline_bytes (field 12 (lit< tt)) in
         let compression : le_at s 77 2 ≡ 0 = read_number 2 0 (field 13 (lit< tt)) (lit< tt) in
-        rw
-        (version, flags, capacity, grain_size, descriptor, sectors, per_table, redundant, directory, dirty, newline, compression)
+        rw (
+          version,
+          flags,
+          capacity,
+          grain_size,
+          descriptor,
+          sectors,
+          per_table,
+          redundant,
+          directory,
+          dirty,
+          newline,
+          compression,
+        )
 
     rules_kept : KdmvRules s (laid_fields c size)
     unfolding rows le_bytes zeros

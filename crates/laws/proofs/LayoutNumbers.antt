@@ -6,7 +6,7 @@ use Rattle.base.proofs.Rounding.{ceil_under, ceil_above}
 use Rattle.format.specs.Geometry.{grains, directory_entries, directory_sectors}
 use Rattle.format.specs.Accepted.{Capacity, GrainSize}
 use Rattle.format.specs.Grains.{Map}
-use Rattle.format.specs.Layout.{head_sectors, sectors_per_table, table_count, tables_at, tables_end, sector_v, sector_of}
+use Rattle.format.specs.Layout.{sectors_per_table, table_count, tables_at, tables_end, sector_of}
 use Rattle.format.specs.declared.Kind.{Kind}
 use Rattle.format.proofs.Geometry.{entry_used, directory_room}
 use Rattle.format.proofs.Grains.{stored_most}

@@ -9,7 +9,8 @@ use Rattle.base.proofs.Stands.{Stands, stands_at}
 use Rattle.base.proofs.Rows.{part_at}
 use Rattle.format.specs.Geometry.{grains}
 use Rattle.format.specs.Grains.{Map}
-use Rattle.format.specs.Layout.{Fits, head_sectors, tables_at, tables_end, sector_v, sectors_laid, header_bytes, directory_bytes}
+use Rattle.format.specs.Layout.{Fits, head_sectors, tables_at, tables_end, sector_v, sectors_laid, header_bytes}
+use Rattle.format.specs.Layout.{directory_bytes}
 use Rattle.format.specs.Layout.{table_bytes, gap_bytes, grain_bytes, layout_parts, layout_as, length_as}
 use Rattle.format.specs.declared.Kind.{Kind}
 use Rattle.format.proofs.Grains.{whole_length, stored_length}

@@ -17,7 +17,8 @@ use Rattle.format.specs.Areas.{Apart, meet}
 use Rattle.format.specs.Check.{misplaced, check_layout, check}
 use Rattle.format.specs.Mend.{from_good, good_entry, other_entry, mended, kinds_differ, directories_differ, areas_kept_apart}
 use Rattle.format.specs.Mend.{is_refused}
-use Rattle.format.specs.Mend.{unmendable, changes, mended_if_room, mend_good, mend_from, mend, after_mend, mended_image, mended_list}
+use Rattle.format.specs.Mend.{unmendable, changes, mended_if_room, mend_good, mend_from, mend, after_mend, mended_image}
+use Rattle.format.specs.Mend.{mended_list}
 use Rattle.format.specs.Judged.{Sided, Passed}
 use Rattle.format.specs.declared.Header.{Header}
 use Rattle.format.specs.declared.Side.{Side}

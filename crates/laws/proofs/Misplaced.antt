@@ -13,7 +13,8 @@ use Rattle.base.proofs.Steps.{or_yes, and_yes, true_or_false, lt_or_ge, cond_all
 use Rattle.format.specs.Geometry.{file_sectors}
 use Rattle.format.specs.Header.{directory_entries_of, judge}
 use Rattle.format.specs.Areas.{Area, area, if_there, named, table_areas, redundant_tables, runs_past}
-use Rattle.format.specs.Check.{descriptor_misplaced, directory_misplaced, redundant_tables_misplaced, misplaced, lowest_misplaced}
+use Rattle.format.specs.Check.{descriptor_misplaced, directory_misplaced, redundant_tables_misplaced, misplaced}
+use Rattle.format.specs.Check.{lowest_misplaced}
 use Rattle.format.specs.Check.{check_grains, check_layout, check_from, check}
 use Rattle.format.specs.Answers.{part_number, verdict}
 use Rattle.format.specs.declared.Header.{Header}

@@ -57,7 +57,8 @@ move_output_lem kind s out long e =
 module _ (kind : Kind) (s out : List ℕ) (long : ℕ) (e : move_to kind s (length out) ≡ Written long) where
   -- the second call refuses 21 or nothing
   pub back_moves : (room : ℕ)
-      → move_to (opposite kind) (take long (move_output kind s out)) room ≡ written_if_room room (length (form_as (opposite kind) s))
+      → move_to (opposite kind) (take long (move_output kind s out)) room ≡ written_if_room room
+      (length (form_as (opposite kind) s))
   back_moves room =
       let p = (move_movable kind s (length out) long e).0 in
       rw (move_output_lem kind s out long e) (movable_moves (opposite kind) (moved_movable kind p) room)

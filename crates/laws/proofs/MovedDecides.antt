@@ -48,7 +48,8 @@ use Rattle.laws.proofs.Unused.{unused_free, entry_same}
 use Rattle.laws.proofs.UsedCollapse.{below_same, if_same}
 
 -- a directory that runs past the file is told whatever stands in it
-directory_past_lem : (s : List ℕ) (k : CowdFields) → file_sectors s < (cowd_header k).directory + (cowd_header k).directory_sectors
+directory_past_lem : (s : List ℕ) (k : CowdFields) → file_sectors s < (cowd_header k).directory
+    + (cowd_header k).directory_sectors
     → check_layout s (cowd_header k) ≡ Refused (Misplaced Directory)
 unfolding check_layout misplaced lowest_misplaced cowd_header pick
 directory_past_lem s k l = rw (le-ltb (file_sectors s) 0 (omega arith), lt-ltb _ _ l, or-true)

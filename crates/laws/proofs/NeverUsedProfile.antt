@@ -73,7 +73,8 @@ module _ (s t : List ℕ) (both : SameSectors s t) where
   module _ {c : ℕ} (p : Layer c 128 s) (m : c % 128 ≡ 0) (part : 0 < length s % 512) where
     form_same : normal_form s ≡ normal_form t
     form_same =
-        normal_is p ∙ layout_same Kdmv c 128 (map_of s) (map_of t) (map_same s t both p) ∙ sym (normal_is (layer_same s t both p))
+        normal_is p ∙ layout_same Kdmv c 128 (map_of s) (map_of t) (map_same s t both p)
+        ∙ sym (normal_is (layer_same s t both p))
 
     first_own : FirstAt s (normal_form s) (first_difference s (normal_form s))
     first_own = place_first s (normal_form s) (uneven p part)

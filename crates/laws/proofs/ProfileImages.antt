@@ -19,7 +19,8 @@ pub normal_meets : {c : ℕ} {s : List ℕ} → Layer c 128 s → c % 128 ≡ 0 
 normal_meets p m = layer_meets (normal_accepted p) m (sym (normal_normal p))
 
 -- ---- two profile images of one capacity
-module _ {lower upper : List ℕ} (p : Meets lower) (q : Meets upper) (same : (header_of lower).capacity ≡ (header_of upper).capacity)
+module _ {lower upper : List ℕ} (p : Meets lower) (q : Meets upper)
+    (same : (header_of lower).capacity ≡ (header_of upper).capacity)
   where
     upper_layer : Layer (header_of lower).capacity 128 upper
     upper_layer = rw same (meets_layer q)

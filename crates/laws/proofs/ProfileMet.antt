@@ -96,7 +96,8 @@ pub longer_place : {c : ℕ} {s : List ℕ} → Layer c 128 s → c % 128 ≡ 0 
     → 1 ≤ length tail → profile s ≡ Refused (NotNormal (length (normal_form s)))
 longer_place {s = s} p m tail e some =
     place_profile p m (length (normal_form s))
-    (subst (λ (a : List ℕ). FirstAt a (normal_form s) (length (normal_form s))) (sym e) (longer_first (normal_form s) tail some))
+    (subst (λ (a : List ℕ). FirstAt a (normal_form s) (length (normal_form s))) (sym e)
+    (longer_first (normal_form s) tail some))
 
 -- an image that is a start of its normal form
 pub start_place : {c : ℕ} {s : List ℕ} → Layer c 128 s → c % 128 ≡ 0 → (tail : List ℕ) → normal_form s ≡ s ++ tail

@@ -14,7 +14,8 @@ use Rattle.base.proofs.Steps.{true_or_false}
 use Rattle.format.specs.Header.{header_of, judge}
 use Rattle.format.specs.Entries.{any_below}
 use Rattle.format.specs.Source.{lookup_in, lookup_from, sector_lookup}
-use Rattle.format.specs.Chain.{lengths_sum, layer_at, lengths_broken, if_known, headers_down, layers_differ, unless_absent, walk_down}
+use Rattle.format.specs.Chain.{lengths_sum, layer_at, lengths_broken, if_known, headers_down, layers_differ, unless_absent}
+use Rattle.format.specs.Chain.{walk_down}
 use Rattle.format.specs.Chain.{walk, chain_lookup}
 use Rattle.format.specs.Answers.{located, chained}
 use Rattle.format.specs.declared.Header.{Header}
@@ -72,7 +73,8 @@ module _ (s : List ℕ) (x : ℕ) where
   unfolding walk walk_down lookup_from
   walked h e = ap chained (pick_else _ _ _ (one_alike s)) ∙ rw (one_layer s) (past_told h e _ refl)
 
-  one_judged : (a : HeaderAnswer) → judge s ≡ a → chained (if_known 0 a (walk s (length s ∷ []) x)) ≡ located (lookup_from s x a)
+  one_judged : (a : HeaderAnswer) → judge s ≡ a → chained (if_known 0 a (walk s (length s ∷ []) x)) ≡ located
+      (lookup_from s x a)
   unfolding if_known lookup_from
   one_judged (unknown r) e = refl
   one_judged (Known h) e = walked h e

@@ -1,20 +1,19 @@
 -- A disk of several files: an extent that serves one of its sectors serves each of them. So one sector's answer judges the
 -- extent, and lookups in its file alone give the rest.
-use Prim.Native.Nat.{ℕ, ◌+◌, ◌<◌}
-use mathlib.Core.Path.{◌≡◌, refl, sym, ◌∙◌}
+use Prim.Native.Nat.{ℕ, ◌<◌}
+use mathlib.Core.Path.{◌≡◌, sym, ◌∙◌}
 use mathlib.Core.List.{List}
-use mathlib.Core.Bool.{true, false, ◌||◌}
+use mathlib.Core.Bool.{◌||◌}
 use mathlib.Core.Logic.{⊎_elim}
 use native.Mathlib.Omega.{arith}
 use lib.Dec.{eqb}
-use Rattle.base.specs.Pick.{pick}
 use Rattle.base.proofs.Steps.{true_or_false}
 use Rattle.descriptor.specs.Extents.{FLAT, VMFS, SPARSE, ZERO}
 use Rattle.descriptor.specs.declared.Extent.{Extent}
 use Rattle.format.specs.declared.Refusal.TheVariants.{KindGone}
 use Rattle.format.specs.declared.LayerSource.{LayerSource}
 use Rattle.format.proofs.Picked.{pick_then, pick_else, passed}
-use Rattle.disk.specs.Split.{source_in, in_zero, in_plain, in_image, by_type, in_extent}
+use Rattle.disk.specs.Split.{in_plain, in_image, by_type, in_extent}
 use Rattle.disk.specs.declared.SplitAnswer.{SplitAnswer}
 use Rattle.disk.specs.declared.SplitAnswer.TheVariants.{Found, Image}
 use Rattle.laws.proofs.SplitServed.{to_type, found_allowed, image_back, image_answer}

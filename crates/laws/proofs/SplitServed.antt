@@ -35,7 +35,6 @@ use Rattle.format.specs.declared.LookupAnswer.TheVariants.{Found as found_in, Re
 use Rattle.format.proofs.Picked.{pick_then, pick_else, passed}
 use Rattle.disk.specs.Split.{source_in, in_zero, in_plain, looked_up, in_accepted, in_image, by_type, in_extent}
 use Rattle.disk.specs.Split.{split_lengths_broken, extents_of, at_extent, split_from, split}
-use Rattle.disk.specs.declared.SplitAnswer.{SplitAnswer}
 use Rattle.disk.specs.declared.SplitAnswer.TheVariants.{Found, SectorPast, OtherFile, Image}
 use Rattle.laws.proofs.ExtentsLaid.{sectors_of, Holder, Laid, laid_sum, none_past, Met, meets}
 use Rattle.laws.proofs.ExtentsRead.{text_read, few_extents}
@@ -141,7 +140,8 @@ module _ (s : List ℕ) (e : Extent) (i o : ℕ) (allowed : e.access ≡ NOACCES
     image_answer = rw (passed, eq-eqb e.sectors e.sectors refl, sound)
 
     pub sparse_served : e.kind ≡ SPARSE → same_at s 0 cowd_magic ≡ false
-        → (in_extent s e i o ≡ source_in i (source_of s (header_of s) o)) × (sector_lookup s o ≡ found_in (source_of s (header_of s) o))
+        → (in_extent s e i o ≡ source_in i (source_of s (header_of s) o))
+        × (sector_lookup s o ≡ found_in (source_of s (header_of s) o))
     unfolding by_type in_image
     sparse_served k m = (
       by_type_lem ∙ pick_else _ _ _ (is k ZERO) ∙ pick_else _ _ _ (plain_is k) ∙ pick_then _ _ _ (is k SPARSE)

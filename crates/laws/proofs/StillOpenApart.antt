@@ -7,7 +7,8 @@ use borrow.Author.Tests.{ne_eqb}
 use Rattle.base.specs.Pick.{pick}
 use Rattle.format.specs.Header.{grains_of, directory_entries_of}
 use Rattle.format.specs.Entries.{meaning_at, grain_entry, grain_sectors}
-use Rattle.format.specs.Areas.{Area, area, if_there, named, header_area, directory_area, redundant_area, table_areas, primary_tables}
+use Rattle.format.specs.Areas.{Area, area, if_there, named, header_area, directory_area, redundant_area, table_areas}
+use Rattle.format.specs.Areas.{primary_tables}
 use Rattle.format.specs.Areas.{redundant_tables, footer_area, grain_area, grain_areas, areas, holders}
 use Rattle.format.specs.Accepted.{AreaRules}
 use Rattle.format.specs.Judged.{Sound}

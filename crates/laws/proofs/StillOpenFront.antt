@@ -9,8 +9,6 @@ use borrow.Author.Tests.{eqb-false}
 use Rattle.base.specs.Strings.{same_at}
 use Rattle.format.specs.Kdmv.{kdmv_magic, kdmv_fields, at_end}
 use Rattle.format.specs.Entries.{entry_at, meaning, in_table, entry_of_grain}
-use Rattle.format.specs.Check.{check}
-use Rattle.format.specs.Frame.{frame}
 use Rattle.format.specs.declared.Header.{Header}
 use Rattle.format.specs.declared.Entry.{Entry}
 use Rattle.format.specs.declared.Entry.TheVariants.{Absent, Zero, Sector}

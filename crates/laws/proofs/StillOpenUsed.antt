@@ -13,7 +13,8 @@ use Rattle.base.proofs.Steps.{cond_all, pick_both, true_or_false}
 use Rattle.format.specs.Geometry.{file_sectors}
 use Rattle.format.specs.Header.{header_of, judge}
 use Rattle.format.specs.Areas.{areas, redundant_tables}
-use Rattle.format.specs.Check.{descriptor_misplaced, directory_misplaced, misplaced, lowest_misplaced, copies_differ, check_apart}
+use Rattle.format.specs.Check.{descriptor_misplaced, directory_misplaced, misplaced, lowest_misplaced, copies_differ}
+use Rattle.format.specs.Check.{check_apart}
 use Rattle.format.specs.Check.{check_copies, check_grains, check_layout, check_from, check}
 use Rattle.format.specs.Source.{lookup_grain, lookup_entry, lookup_table, lookup_in, lookup_from, sector_lookup}
 use Rattle.format.specs.Frame.{frame_words, frame_areas, frame_from, frame, list_after, frame_list}

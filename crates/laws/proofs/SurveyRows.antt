@@ -39,7 +39,8 @@ unfolding row_from
 row_told s (Accepted c size) = (refl, refl)
 row_told s (unaccepted r) = (refl, refl)
 
-pub survey_number : (s : List ℕ) → ((row_of s).number ≡ (verdict (check s)).number) × ((row_of s).place ≡ (verdict (check s)).place)
+pub survey_number : (s : List ℕ) → ((row_of s).number ≡ (verdict (check s)).number)
+    × ((row_of s).place ≡ (verdict (check s)).place)
 survey_number s = row_told s (check s)
 
 -- a refused image has four zeros, an accepted one number and place 0

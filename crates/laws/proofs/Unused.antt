@@ -18,7 +18,8 @@ use Rattle.format.specs.Entries.{grain_sectors, marker_broken}
 use Rattle.format.specs.Areas.{Area, named, table_areas, primary_tables, redundant_tables, grain_area, areas}
 use Rattle.format.specs.Areas.{runs_past}
 use Rattle.format.specs.Frame.{frame_words, frame_areas}
-use Rattle.format.specs.Check.{descriptor_misplaced, directory_misplaced, redundant_directory_misplaced, primary_tables_misplaced}
+use Rattle.format.specs.Check.{descriptor_misplaced, directory_misplaced, redundant_directory_misplaced}
+use Rattle.format.specs.Check.{primary_tables_misplaced}
 use Rattle.format.specs.Check.{redundant_tables_misplaced, misplaced, lowest_misplaced, entry_differs, grain_past}
 use Rattle.format.specs.Check.{marker_broken_at, lowest_past, lowest_bad_marker, copy_differs, copies_differ, unless_grain}
 use Rattle.format.specs.Check.{check_apart, check_copies, check_grains, check_layout}
@@ -171,7 +172,8 @@ module _ (s t : List ℕ) (h : Header) (one : 1 ≤ h.grain_size) (per : 1 ≤ h
             ← table_same s t h h.redundant (same.copies two) (redundant_in (file_sectors s) h p.redundant two) d l,
           )
           (copy_same s t _ _ _ (λ u e. in_primary d u l e)
-          (λ u e. (same.copies two).tables d u l e (table_in s _ _ _ _ (rw (redundant_tables_lem s h two) at p.copies) d u l e)))
+          (λ u e. (same.copies two).tables d u l e
+          (table_in s _ _ _ _ (rw (redundant_tables_lem s h two) at p.copies) d u l e)))
 
       copies_same : copies_differ s h ≡ copies_differ t h
       unfolding copies_differ

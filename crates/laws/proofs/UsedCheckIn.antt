@@ -13,7 +13,8 @@ use Rattle.format.specs.Geometry.{file_sectors}
 use Rattle.format.specs.Header.{header_of}
 use Rattle.format.specs.Areas.{areas}
 use Rattle.format.specs.Check.{check}
-use Rattle.format.specs.CheckIn.{words_needed, marked_sectors, came_to_marking, check_in_room, with_marked, check_in, list_after_check}
+use Rattle.format.specs.CheckIn.{words_needed, marked_sectors, came_to_marking, check_in_room, with_marked, check_in}
+use Rattle.format.specs.CheckIn.{list_after_check}
 use Rattle.format.specs.declared.Taken.TheVariants.{KdmvAlone}
 use Rattle.format.specs.declared.Refusal.TheVariants.{TooLittleRoom}
 use Rattle.format.specs.declared.CheckAnswer.{CheckAnswer}
@@ -55,7 +56,8 @@ module _ (s t : List ℕ) (both : SameUsed s t) where
   used_check_in room =
       let a = check_in_room s room in
       ap (λ (n : ℕ). record { checked = a; marked = n })
-      (pick_both ◌≡◌ (came_to_marking a) _ _ _ _ (λ came. ap marked_sectors (marked_same (came_plain s room came).1)) (λ n. refl))
+      (pick_both ◌≡◌ (came_to_marking a) _ _ _ _ (λ came. ap marked_sectors (marked_same (came_plain s room came).1))
+      (λ n. refl))
       ∙ ap (with_marked t) (room_same room)
 
   pub used_lent : (list : List ℕ) → list_after_check s list ≡ list_after_check t list

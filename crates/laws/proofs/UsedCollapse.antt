@@ -11,7 +11,8 @@ use Rattle.format.specs.Entries.{grain_entry}
 use Rattle.format.specs.Check.{check}
 use Rattle.format.specs.Grains.{Map, merge, grain_from, upper_unless_absent, one_if_stored, stored_below}
 use Rattle.format.specs.Layout.{sectors_laid, layout_length}
-use Rattle.format.specs.Collapse.{map_of, if_accepted, not_collapsible, still_open, written_if_room, normal, collapse_from, collapse}
+use Rattle.format.specs.Collapse.{map_of, if_accepted, not_collapsible, still_open, written_if_room, normal, collapse_from}
+use Rattle.format.specs.Collapse.{collapse}
 use Rattle.format.specs.declared.Entry.{Entry}
 use Rattle.format.specs.declared.Entry.TheVariants.{Absent, Zero, Sector}
 use Rattle.format.specs.declared.CheckAnswer.{CheckAnswer}

@@ -46,7 +46,8 @@ unfoldable pub layers_of : Pairing → List (List ℕ)
 layers_of (layer s) = s ∷ []
 layers_of (pair lower upper) = layers_of lower ++ layers_of upper
 
--- what comes of collapsing so, two at a time: `collapsed` is what the call writes (`collapse_output_lem`). A single layer stays as
+-- what comes of collapsing so, two at a time: `collapsed` is what the call writes (`collapse_output_lem`). A single layer
+-- stays as
 -- it is
 unfoldable pub paired_image : Pairing → List ℕ
 paired_image (layer s) = s

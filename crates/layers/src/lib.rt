@@ -1,4 +1,6 @@
 // Two layers read as one: where each grain comes from, and how many are stored.
+#![tactic(auto)]
+
 ghost use Rattle.std.specs.Prelude.{◌≡◌, ◌≤◌, ◌<◌};
 ghost use Rattle.format.specs.Header.{grains_of};
 ghost use Rattle.format.specs.Entries.{grain_entry};
@@ -9,7 +11,7 @@ use entries::meaning_at;
 use format::{Entry, Header};
 
 // Where a grain of two layers comes from: if it is stored, the layer and the sector.
-#[derive(Drop)]
+#[derive(Clone, Copy)]
 pub enum GrainSource {
     Absent,
     Zero,

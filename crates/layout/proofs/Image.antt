@@ -9,7 +9,8 @@ use Rattle.base.specs.Rows.{rows, entry_bytes}
 use Rattle.base.proofs.Over.{first, more, last, wrote_length, zeros_length}
 use Rattle.format.specs.Geometry.{grains}
 use Rattle.format.specs.Grains.{Map}
-use Rattle.format.specs.Layout.{head_sectors, sectors_per_table, table_count, tables_at, tables_end, sector_v, sector_of, sectors_laid}
+use Rattle.format.specs.Layout.{head_sectors, sectors_per_table, table_count, tables_at, tables_end, sector_v, sector_of}
+use Rattle.format.specs.Layout.{sectors_laid}
 use Rattle.format.specs.Layout.{header_bytes, directory_bytes, table_bytes, gap_bytes, grain_bytes, layout_as}
 use Rattle.format.specs.declared.Kind.{Kind}
 use Rattle.format.proofs.Lengths.{header_length, directory_length, gap_length, entries_fit, grains_late}

@@ -7,7 +7,8 @@ use Rattle.format.specs.Geometry.{grains}
 use Rattle.format.specs.Kdmv.{kdmv_magic, newline_bytes}
 use Rattle.format.specs.Cowd.{cowd_magic}
 use Rattle.format.specs.Grains.{Map, bytes_of, stored_below, entry_for}
-use Rattle.format.specs.Layout.{head_sectors, sectors_per_table, table_count, tables_at, tables_end, header_bytes, directory_bytes}
+use Rattle.format.specs.Layout.{head_sectors, sectors_per_table, table_count, tables_at, tables_end, header_bytes}
+use Rattle.format.specs.Layout.{directory_bytes}
 use Rattle.format.specs.Layout.{gap_bytes}
 use Rattle.format.specs.declared.Kind.{Kind}
 
@@ -15,7 +16,8 @@ use Rattle.format.specs.declared.Kind.{Kind}
 -- run of zeros
 unfoldable pub header_front : ℕ → ℕ → List ℕ
 header_front c n =
-    all_of (kdmv_magic ∷ le_bytes 4 2 ∷ le_bytes 4 5 ∷ le_bytes 8 c ∷ le_bytes 8 n ∷ le_bytes 8 0 ∷ le_bytes 8 0 ∷ le_bytes 4 512 ∷ [])
+    all_of (kdmv_magic ∷ le_bytes 4 2 ∷ le_bytes 4 5 ∷ le_bytes 8 c ∷ le_bytes 8 n ∷ le_bytes 8 0 ∷ le_bytes 8 0 ∷ le_bytes
+    4 512 ∷ [])
 
 unfoldable pub header_back : ℕ → List ℕ
 header_back v = all_of (le_bytes 8 0 ∷ le_bytes 8 1 ∷ le_bytes 8 v ∷ zeros 1 ∷ newline_bytes ∷ zeros 435 ∷ [])

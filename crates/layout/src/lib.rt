@@ -1,4 +1,6 @@
 // Where the parts of an image that is written stand, by its kind, capacity and grain size, and one grain of it written.
+#![tactic(auto)]
+
 ghost use Rattle.std.specs.Prelude.{◌≡◌, ◌≤◌, ◌*◌, ◌-◌, ◌<◌, min, length};
 ghost use Rattle.format.specs.Layout.{head_sectors, sectors_per_table, table_count, tables_at, tables_end, sector_v};
 ghost use Rattle.format.specs.Judged.{Sized};

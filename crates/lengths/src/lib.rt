@@ -1,4 +1,6 @@
 // Refusal 24: a lent list of lengths, of parts that stand end to end in one slice.
+#![tactic(auto)]
+
 ghost use Rattle.std.specs.Prelude.{◌≡◌, eqb};
 ghost use Rattle.format.specs.Chain.{lengths_sum, lengths_broken};
 

@@ -1,10 +1,12 @@
 // The two calls on a local array of records that is lent to them: whoever calls these functions has plain values and no list.
+#![tactic(auto)]
+
 ghost use Rattle.std.specs.Prelude.{◌≡◌};
 ghost use Rattle.descriptor.specs.Records.{descriptor_answer, descriptor_list, find_answer};
 
 use descriptor::{Described, Extent, Found};
 
-#[derive(Drop)]
+#[derive(Clone, Copy)]
 pub struct Lent {
     pub answer: Described,
     pub list: [Extent; 4],

@@ -1,6 +1,6 @@
 // A line that is key = value, `end` the place where it ends. A line of no form is 32, a required key that is malformed 33.
 ghost use Rattle.std.specs.Prelude.{◌≡◌, ◌≤◌, length};
-ghost use Rattle.descriptor.specs.Words.{no_value, decimal, hex, quoted_place, quoted_length};
+ghost use Rattle.descriptor.specs.Words.{no_value, decimal_value, hex, quoted_place, quoted_length};
 ghost use Rattle.descriptor.specs.Keys.{key_of, version_is, cid_is, create_type_is, value_of, with_key, split_at, key_line};
 ghost use Rattle.lines.specs.LineBounds.{Within};
 
@@ -38,7 +38,7 @@ fn version_is(n: u64) -> Line
 }
 
 fn version(v: &[u8]) -> Line
-    ensures { result ≡ version_is (decimal v.now) }
+    ensures { result ≡ version_is (decimal_value v.now) }
 {
     version_is(words::decimal(v))
 }

@@ -1,4 +1,6 @@
 // What one line of a descriptor says: nothing, an extent, a required key, or a refusal.
+#![tactic(auto)]
+
 ghost use Rattle.std.specs.Prelude.{◌≡◌};
 ghost use Rattle.descriptor.specs.Line.{line_with, line};
 ghost use Rattle.lines.specs.LineBounds.{Within, Bounded};

@@ -1,4 +1,6 @@
 // Where a sector comes from: the lookup. Work does not grow with the image.
+#![tactic(auto)]
+
 ghost use Rattle.std.specs.Prelude.{◌≡◌, ◌≤◌, ◌<◌};
 ghost use Rattle.format.specs.Source.{lookup_table, lookup_in, sector_lookup};
 ghost use Rattle.format.specs.declared.Entry.TheVariants.{Sector};

@@ -1,4 +1,6 @@
 // Runs of sectors marked in a list of words, one bit a sector. What tells whether two areas of a file share a sector.
+#![tactic(auto)]
+
 ghost use Rattle.std.specs.Prelude.{◌+◌, ◌*◌, ◌-◌, ◌/◌, ◌^◌, ◌≤◌, ◌<◌, min, max, length};
 ghost use Rattle.marks.specs.Marks.{Mask, Room, Tested, Put, Marking};
 

@@ -138,7 +138,8 @@ module _ (s : List ℕ) (g : Header) (z : Sided s g) (apart : meet (areas_kept_a
   })
 
   -- what is read of the good table is as it was lent
-  same_table : (a b : Entry) → a ≡ good_entry s g d → over_table (mended_below s g d) (entries_in_use g d) a b (mended_below s g d)
+  same_table : (a b : Entry) → a ≡ good_entry s g d → over_table (mended_below s g d) (entries_in_use g d) a b
+      (mended_below s g d)
       ≡ over_table s (entries_in_use g d) a b (mended_below s g d)
   unfolding over_table
   same_table (Sector t) (Sector u) e =

@@ -11,7 +11,8 @@ use Rattle.base.specs.Pick.{pick}
 use Rattle.format.specs.Header.{judge}
 use Rattle.format.specs.Areas.{meet}
 use Rattle.format.specs.Check.{misplaced, lowest_misplaced}
-use Rattle.format.specs.Mend.{from_good, mended, directories_differ, areas_kept_apart, unmendable, changes, mended_if_room, mend_good}
+use Rattle.format.specs.Mend.{from_good, mended, directories_differ, areas_kept_apart, unmendable, changes, mended_if_room}
+use Rattle.format.specs.Mend.{mend_good}
 use Rattle.format.specs.Mend.{mend_from, mend, after_mend, mended_image, mended_list}
 use Rattle.format.specs.Judged.{Sided}
 use Rattle.format.specs.declared.Header.{Header}

@@ -1,10 +1,13 @@
 // Mending one directory's tables from the other's: refusals 1 to 8, 40 and 21, then the changes listed and written.
+#![tactic(auto)]
+
 ghost use Rattle.std.specs.Prelude.{◌≡◌, false, ℕ, ◌+◌, ◌-◌, ◌*◌, ◌≤◌, ◌<◌, min, length};
 ghost use Rattle.base.specs.Bytes.{over};
 ghost use Rattle.format.specs.Geometry.{bytes_at};
 ghost use Rattle.format.specs.Header.{judge};
 ghost use Rattle.format.specs.Areas.{meet};
-ghost use Rattle.format.specs.Mend.{from_good, good_entry, other_entry, over_table, mended, areas_kept_apart, mend_good, mend_from};
+ghost use Rattle.format.specs.Mend.{from_good, good_entry, other_entry, over_table, mended, areas_kept_apart, mend_good};
+ghost use Rattle.format.specs.Mend.{mend_from};
 ghost use Rattle.format.specs.Mend.{mend, mended_image, mended_list};
 ghost use Rattle.format.specs.Judged.{Sided};
 ghost use Rattle.format.specs.declared.Entry.TheVariants.{Sector};

@@ -1,4 +1,6 @@
 // Refusal 40: whether an image can be mended from one side, judged on the image as it is.
+#![tactic(auto)]
+
 ghost use Rattle.std.specs.Prelude.{◌≡◌, ◌+◌, ◌*◌, ◌≤◌, length};
 ghost use Rattle.format.specs.Entries.{meaning_at, any_below};
 ghost use Rattle.format.specs.Areas.{areas, meet};

@@ -11,7 +11,8 @@ use Rattle.format.specs.Header.{header_of}
 use Rattle.format.specs.Entries.{grain_entry}
 use Rattle.format.specs.Grains.{grain_map}
 use Rattle.format.specs.Collapse.{map_of, still_open, written_if_room}
-use Rattle.format.specs.Moves.{laid_as, laid_length_as, form_as, is_kind, not_taken, says_zero, zero_grain, zero_lost, not_movable}
+use Rattle.format.specs.Moves.{laid_as, laid_length_as, form_as, is_kind, not_taken, says_zero, zero_grain, zero_lost}
+use Rattle.format.specs.Moves.{not_movable}
 use Rattle.format.specs.Moves.{move_from}
 use Rattle.format.specs.declared.Kind.{Kind}
 use Rattle.format.specs.declared.Header.{Header}
@@ -69,7 +70,8 @@ module _ (kind : Kind) (s : List ℕ) (h : Header) (room : ℕ) (image d : List 
     not_clean t = not_here NotCollapsible _ image d e n (refused_here StillOpen _ image d o t)
 
     pub then_sized : b ≡ false → {r : CollapseAnswer} {y : List ℕ}
-        → Answered (pick (not_movable kind s h) (Refused NotMovable) (written_if_room room (laid_length_as kind h (grain_map s h))))
+        → Answered (pick (not_movable kind s h) (Refused NotMovable)
+        (written_if_room room (laid_length_as kind h (grain_map s h))))
         image d r y
         → Answered (move_from kind s h (grain_map s h) room) image d r y
     unfolding move_from

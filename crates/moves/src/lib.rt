@@ -1,9 +1,12 @@
 // Moves of images from COWD to KDMV and back, into lent output: the only calls that take COWD.
+#![tactic(auto)]
+
 ghost use Rattle.std.specs.Prelude.{◌≡◌, length};
 ghost use Rattle.base.specs.Pick.{pick};
 ghost use Rattle.format.specs.Grains.{grain_map};
 ghost use Rattle.format.specs.Collapse.{written_if_room};
-ghost use Rattle.format.specs.Moves.{laid_as, laid_length_as, not_taken, says_zero, any_zero, zero_lost, not_movable, move_from, move_to};
+ghost use Rattle.format.specs.Moves.{laid_as, laid_length_as, not_taken, says_zero, any_zero, zero_lost, not_movable};
+ghost use Rattle.format.specs.Moves.{move_from, move_to};
 ghost use Rattle.format.specs.Moves.{move_output, to_kdmv, to_kdmv_output, to_cowd, to_cowd_output};
 ghost use Rattle.format.specs.declared.Refusal.TheVariants.{NotMovable};
 ghost use Rattle.format.specs.declared.CollapseAnswer.TheVariants.{Refused};

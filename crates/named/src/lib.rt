@@ -1,4 +1,6 @@
 // Marking what the entries of directories and tables name.
+#![tactic(auto)]
+
 ghost use Rattle.std.specs.Prelude.{◌≡◌, false, ◌+◌, ◌*◌, ◌≤◌, length};
 ghost use Rattle.base.specs.Rows.{rows};
 ghost use Rattle.format.specs.Geometry.{file_sectors};

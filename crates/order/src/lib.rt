@@ -1,4 +1,6 @@
 // Refusal 12, in one pass over the entries where what they name stands in order, else window by window.
+#![tactic(auto)]
+
 ghost use Rattle.std.specs.Prelude.{◌≡◌};
 ghost use Rattle.format.specs.Areas.{areas, meet};
 ghost use Rattle.overlap.specs.InFile.{InFile};

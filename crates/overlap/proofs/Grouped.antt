@@ -14,7 +14,8 @@ use Rattle.format.specs.Geometry.{file_sectors, grains}
 use Rattle.format.specs.Header.{grains_of, directory_entries_of}
 use Rattle.format.specs.Entries.{entry_at, grain_sectors}
 use Rattle.format.specs.Areas.{Area, area, if_there, header_area, descriptor_area, directory_area, redundant_area, table_areas}
-use Rattle.format.specs.Areas.{primary_tables, redundant_tables, footer_area, last_area, grain_area, grain_areas, areas, runs_past}
+use Rattle.format.specs.Areas.{primary_tables, redundant_tables, footer_area, last_area, grain_area, grain_areas, areas}
+use Rattle.format.specs.Areas.{runs_past}
 use Rattle.format.specs.declared.Header.{Header}
 use Rattle.format.proofs.Geometry.{grains_few, table_used}
 use Rattle.format.proofs.Inside.{Inside, groups_in, one_in, rows_in, in_rows, there_in}
@@ -40,7 +41,8 @@ regroup a b c d e f g i j = simp append_assoc
 pub areas_grouped : (s : List ℕ) (h : Header) → areas s h ≡ beside_grains s h false ++ grain_areas s h
 unfolding areas beside_grains front_areas head_areas directory_areas tables_of back_areas pick
 areas_grouped s h =
-    regroup (header_area h) (descriptor_area h) (directory_area h) (redundant_area h) (primary_tables s h) (redundant_tables s h)
+    regroup (header_area h) (descriptor_area h) (directory_area h) (redundant_area h) (primary_tables s h)
+    (redundant_tables s h)
     (footer_area s h) (last_area s h) (grain_areas s h)
 
 module _ (s : List ℕ) (h : Header) (i : InFile s h) where

@@ -2,7 +2,8 @@
 use Rattle.std.specs.Prelude.{ℕ, ◌+◌, ◌^◌, ◌<◌, ◌≡◌, List, [], ◌∷◌, ◌++◌, Bool, true, false, not, ◌&&◌, eqb}
 use Rattle.base.specs.Pick.{pick}
 use Rattle.format.specs.Geometry.{file_sectors}
-use Rattle.format.specs.Areas.{Area, header_area, descriptor_area, directory_area, redundant_area, primary_tables, redundant_tables}
+use Rattle.format.specs.Areas.{Area, header_area, descriptor_area, directory_area, redundant_area, primary_tables}
+use Rattle.format.specs.Areas.{redundant_tables}
 use Rattle.format.specs.Areas.{footer_area, last_area, areas, runs_past}
 use Rattle.format.specs.declared.Header.{Header}
 use Rattle.format.specs.Judged.{Sound}

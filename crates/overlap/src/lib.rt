@@ -1,4 +1,6 @@
 // Refusal 12: whether a sector lies in two areas of an image. Runs of sectors are marked in windows of the file.
+#![tactic(auto)]
+
 ghost use Rattle.std.specs.Prelude.{◌≡◌, [], false};
 ghost use Rattle.base.specs.Pick.{pick};
 ghost use Rattle.format.specs.Geometry.{file_sectors};
@@ -181,7 +183,7 @@ fn mark_around(words: &mut [u64], lo: u64, image: &[u8], h: Header, stretch: Str
 }
 
 // What is marked in each window: all areas, or the frame around a stretch.
-#[derive(Drop)]
+#[derive(Clone, Copy)]
 pub enum Walk {
     All,
     Frame(Stretch),

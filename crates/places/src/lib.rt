@@ -1,4 +1,6 @@
 // Refusal 8: descriptor, directories and tables, each part a function of its own, judged in their order.
+#![tactic(auto)]
+
 ghost use Rattle.std.specs.Prelude.{◌≡◌, false, ◌+◌, ◌*◌, ◌≤◌, length};
 ghost use Rattle.format.specs.Geometry.{file_sectors};
 ghost use Rattle.format.specs.Entries.{meaning_at};

@@ -14,7 +14,8 @@ use Rattle.base.proofs.Steps.{lt_or_ge}
 use Rattle.base.proofs.Rows.{rows_same}
 use Rattle.format.specs.Geometry.{grains}
 use Rattle.format.specs.Grains.{Map, grain_from, one_if_stored, entry_for}
-use Rattle.format.specs.Layout.{tables_at, tables_end, sector_v, sector_of, sectors_laid, table_entry, header_bytes, directory_bytes}
+use Rattle.format.specs.Layout.{tables_at, tables_end, sector_v, sector_of, sectors_laid, table_entry, header_bytes}
+use Rattle.format.specs.Layout.{directory_bytes}
 use Rattle.format.specs.Layout.{table_bytes, gap_bytes, grain_bytes, layout_as}
 use Rattle.format.specs.declared.Kind.TheVariants.{Kdmv}
 use Rattle.format.specs.declared.Entry.{Entry}

@@ -41,7 +41,8 @@ module _ {c size : ℕ} (z : Sizes c size) (m : Map) where
       let n = table_count Kdmv c size in
       let fits = directory_room n in
       zeros_as _ _ (omega arith)
-      (unused_stand n (128 * directory_sectors n) (λ d. tables_at Kdmv c size + 4 * d) (directory_stands Kdmv z m) (omega arith))
+      (unused_stand n (128 * directory_sectors n) (λ d. tables_at Kdmv c size + 4 * d) (directory_stands Kdmv z m)
+      (omega arith))
 
   pub gap_unused : Stands (layout_as Kdmv c size m) (entries_end Kdmv c size)
       (zeros (512 * sector_v Kdmv c size - entries_end Kdmv c size))

@@ -71,7 +71,8 @@ unfolding profile_form pick
 first_answer h a b n f =
     let no = first_differs f in rw (other_file a b no, place_only (place_first a b no) f)
 
-joined : (s t : List ℕ) (n m : ℕ) → SameBytes s t 0 n → ((i : ℕ) → n ≤ i → i < m → get_or s i 0 ≡ get_or t i 0) → SameBytes s t 0 m
+joined : (s t : List ℕ) (n m : ℕ) → SameBytes s t 0 n → ((i : ℕ) → n ≤ i → i < m → get_or s i 0 ≡ get_or t i 0)
+    → SameBytes s t 0 m
 joined s t n m low high i y l = ⊎_elim (λ b. low i y (omega arith)) (λ b. high i b (omega arith)) (lt_or_ge i n)
 
 -- ---- an image whose bytes before the grains are its form's: it starts with the form

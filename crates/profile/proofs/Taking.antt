@@ -37,7 +37,8 @@ published_of s h t e n f o g k =
 
 -- ---- the check, at the arms of a match
 module _ (s : List ℕ) where
-  refused_by : (b x : CheckAnswer) (r : Refusal) → accepted_header b (header_of s) ≡ unknown r → Refused r ≡ profile_if_accepted b x
+  refused_by : (b x : CheckAnswer) (r : Refusal) → accepted_header b (header_of s) ≡ unknown r
+      → Refused r ≡ profile_if_accepted b x
   unfolding accepted_header profile_if_accepted
   refused_by (Refused q) x r p = cc
   refused_by (Accepted c z) x r p = let n : ◌≡◌ {A = ℕ} 0 1 = cc in absurd (omega arith)

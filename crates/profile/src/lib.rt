@@ -1,5 +1,7 @@
 // The lab profile: whether an image is its own normal form of grain size 128. The form is not written: its parts are compared
 // in the file's order, each where all before it are alike.
+#![tactic(auto)]
+
 ghost use Rattle.std.specs.Prelude.{◌≡◌, ◌+◌, ◌*◌, ◌≤◌, min, length};
 ghost use Rattle.format.specs.Layout.{table_count, tables_at, sector_v};
 ghost use Rattle.format.specs.Profile.{profile_sizes_broken, profile_from, profile};

@@ -1,33 +1,51 @@
 // The lines that the test program prints, of numbers with a space after each, and the numbers that it reads.
-ghost use Rattle.std.specs.Prelude.{◌≡◌, ◌≤◌, ◌<◌, length};
+#![tactic(auto)]
+
+ghost use Rattle.std.specs.Prelude.{◌≡◌, ◌≤◌, ◌<◌, IfOk, length};
 
 use format::Located;
-use libc::STDOUT_FILENO;
+use std::io;
+use std::io::Read;
 
-pub fn start(call: &[u8]) {
-    io::write_all(STDOUT_FILENO, call);
+// Reads until the buffer is full or the input ends: how many bytes there were.
+pub fn read_full<R: Read>(input: &mut R, buffer: &mut [u8]) -> io::Result<usize>
+    ensures { IfOk result (λ n. n ≤ length buffer.new) }
+{
+    let most = buffer.len();
+    let mut done = 0;
+    while done < most {
+        let n = input.read(&mut buffer[done..])?;
+        if n == 0 {
+            break;
+        }
+        done += n;
+    }
+    Ok(done)
 }
 
-pub fn put(n: u64) {
-    io::print_decimal(STDOUT_FILENO, n);
-    io::write_all(STDOUT_FILENO, b" ");
+pub fn start(rt: &impl Print, call: &[u8]) -> io::Result<()> {
+    rt.write_all(call)
 }
 
-pub fn end() {
-    io::write_all(STDOUT_FILENO, b"\n");
+pub fn put(rt: &impl Print, n: u64) -> io::Result<()> {
+    print!(rt; "{n} ")
+}
+
+pub fn end(rt: &impl Print) -> io::Result<()> {
+    rt.write_all(b"\n")
 }
 
 // Number, layer, place, kind, sector, size, offset.
-pub fn put_located(call: &[u8], a: Located) {
-    start(call);
-    put(a.number);
-    put(a.layer);
-    put(a.place);
-    put(a.kind);
-    put(a.sector);
-    put(a.size);
-    put(a.offset);
-    end();
+pub fn put_located(rt: &impl Print, call: &[u8], a: Located) -> io::Result<()> {
+    start(rt, call)?;
+    put(rt, a.number)?;
+    put(rt, a.layer)?;
+    put(rt, a.place)?;
+    put(rt, a.kind)?;
+    put(rt, a.sector)?;
+    put(rt, a.size)?;
+    put(rt, a.offset)?;
+    end(rt)
 }
 
 // One byte more: a number in base 257, by a prime below 2^55.

@@ -13,7 +13,7 @@ use Rattle.format.specs.Header.{judge}
 use Rattle.format.specs.Entries.{grain_sectors}
 use Rattle.format.specs.Source.{grain_source, lookup_grain, lookup_entry, lookup_table, lookup_in, lookup_from, sector_lookup}
 use Rattle.format.specs.Source.{source_part, answer_part, answer_bytes, read}
-use Rattle.format.specs.declared.Part.{Part}
+use Rattle.format.specs.declared.numbers.Part.{Part}
 use Rattle.format.specs.declared.Header.{Header}
 use Rattle.format.specs.declared.Entry.{Entry}
 use Rattle.format.specs.declared.Entry.TheVariants.{Absent, Zero, Sector}

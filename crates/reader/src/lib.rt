@@ -1,4 +1,6 @@
 // The grain reader: the bytes of a sector's source, as a part of the image itself.
+#![tactic(auto)]
+
 ghost use Rattle.std.specs.Prelude.{◌≡◌, ◌+◌, ◌*◌, ◌^◌, ◌<◌, length};
 ghost use Rattle.format.specs.Source.{sector_lookup, source_part, answer_part, read};
 ghost use Rattle.reader.specs.PartEnd.{part_end};

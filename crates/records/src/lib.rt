@@ -1,5 +1,7 @@
 // The descriptor's two calls: a text is read and its extents are handed over in a lent list of records; and the record of such
 // a list that holds a sector is found. The functions over the list are few and thin.
+#![tactic(auto)]
+
 ghost use Rattle.std.specs.Prelude.{◌≡◌, ◌<◌, get_or};
 ghost use Rattle.descriptor.specs.Descriptor.{no_extent};
 ghost use Rattle.descriptor.specs.Records.{fits, stored, descriptor_answer, descriptor_list, holding, find_answer};

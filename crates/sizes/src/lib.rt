@@ -1,4 +1,6 @@
 // Sizes of either kind: what refusal 6 judges, and what is computed from them.
+#![tactic(auto)]
+
 ghost use Rattle.std.specs.Prelude.{◌≡◌, ◌≤◌, ◌<◌, min};
 ghost use Rattle.base.specs.Rounding.{power_up_to};
 ghost use Rattle.format.specs.Geometry.{grains, directory_entries, directory_sectors};

@@ -62,7 +62,8 @@ pub plain_past : {r : Bool} (s : List ℕ) (offset sectors f : ℕ) → r ≡ lt
 plain_past s offset sectors f e q = rw (← q) e
 
 -- where all lie in the file, the number of each fits in a word
-pub plain_fits : {r : Bool} (s : List ℕ) (offset sectors o f : ℕ) → r ≡ ltb f (offset + sectors) → r ≡ false → f ≡ file_sectors s
+pub plain_fits : {r : Bool} (s : List ℕ) (offset sectors o f : ℕ) → r ≡ ltb f (offset + sectors) → r ≡ false
+    → f ≡ file_sectors s
     → o < sectors → length s < 0x10000000000000000 → offset + o < 0x10000000000000000
 plain_fits s offset sectors o f e n q l b = omega (arith, ltb-false f (offset + sectors) (sym e ∙ n))
 

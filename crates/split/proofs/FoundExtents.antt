@@ -125,15 +125,16 @@ unfolding at_extent pick
 found_past files lengths records count x f q n = rw (← q, ne_eqb f.number 0 n)
 
 -- ---- 24 is not given
-module _ {r : Bool} (count : ℕ) (files lengths : List ℕ) (e : r ≡ split_lengths_broken count files lengths) (f : r ≡ false) where
-  parts : (not (eqb (length lengths) count) ≡ false) × (not (eqb (lengths_sum lengths) (length files)) ≡ false)
-  parts = or_no (not (eqb (length lengths) count)) (not (eqb (lengths_sum lengths) (length files))) (sym e ∙ f)
+module _ {r : Bool} (count : ℕ) (files lengths : List ℕ) (e : r ≡ split_lengths_broken count files lengths) (f : r ≡ false)
+  where
+    parts : (not (eqb (length lengths) count) ≡ false) × (not (eqb (lengths_sum lengths) (length files)) ≡ false)
+    parts = or_no (not (eqb (length lengths) count)) (not (eqb (lengths_sum lengths) (length files))) (sym e ∙ f)
 
-  pub lengths_whole : lengths_sum lengths ≡ length files
-  lengths_whole = eqb-true (lengths_sum lengths) (length files) (not_no _ parts.1)
+    pub lengths_whole : lengths_sum lengths ≡ length files
+    lengths_whole = eqb-true (lengths_sum lengths) (length files) (not_no _ parts.1)
 
-  pub lengths_as_many : length lengths ≡ count
-  lengths_as_many = eqb-true (length lengths) count (not_no _ parts.0)
+    pub lengths_as_many : length lengths ≡ count
+    lengths_as_many = eqb-true (length lengths) count (not_no _ parts.0)
 
 -- ---- where its file stands
 module _ (s l : List ℕ) (whole : lengths_sum l ≡ length s) where

@@ -1,4 +1,6 @@
 // A disk cut into several files: the descriptor is read once, the extent of a sector found, and only its own file judged.
+#![tactic(auto)]
+
 ghost use Rattle.std.specs.Prelude.{◌≡◌, ◌<◌, min, length, take};
 ghost use Rattle.descriptor.specs.Records.{find_answer};
 ghost use Rattle.format.specs.Chain.{lengths_sum, layer_at};

@@ -48,7 +48,12 @@ module _ (s l : List ℕ) where
     unfolding rows
     rows_more q =
         rw (add-one)
-        (put_more (omega (arith, length-append (rows_below s l k) (row_words (row_at s l k)), rows_long k, row_long (row_at s l k)))
+        (put_more (omega (
+          arith,
+          length-append (rows_below s l k) (row_words (row_at s l k)),
+          rows_long k,
+          row_long (row_at s l k),
+        ))
         w (rw o at q))
 
     pub row_length : {y : List ℕ} {r : ℕ} → WordsPut (row_words row) x at y r → length x ≡ length d → length y ≡ length d

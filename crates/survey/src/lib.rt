@@ -1,4 +1,6 @@
 // The survey: of each image a row, then the totals and the tally. Nothing is written before both lists are long enough.
+#![tactic(auto)]
+
 ghost use Rattle.std.specs.Prelude.{◌≡◌, ◌+◌, ◌*◌, ◌≤◌, ◌<◌, eqb, length, get_or};
 ghost use Rattle.base.specs.Pick.{pick};
 ghost use Rattle.base.specs.Bytes.{over};

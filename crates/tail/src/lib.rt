@@ -1,4 +1,6 @@
 // The tail that closes a stream, written into lent output, table after table. What was written is not read again.
+#![tactic(auto)]
+
 ghost use Rattle.std.specs.Prelude.{◌≡◌, ◌+◌, ◌*◌, ◌≤◌, ◌<◌, length};
 ghost use Rattle.base.specs.Numbers.{le_bytes};
 ghost use Rattle.base.specs.Bytes.{over};
@@ -14,7 +16,7 @@ use sizes::directory_entries;
 use walk::{Counted, NextGrain, next_grain, overhead};
 
 // The tables written, and the next grain.
-#[derive(Drop)]
+#[derive(Clone, Copy)]
 pub struct Rows {
     pub tables: u64,
     pub next: NextGrain,

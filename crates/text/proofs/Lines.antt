@@ -58,7 +58,8 @@ module _ (text : List ℕ) (from to : ℕ) (h : from ≤ length text) (e : to �
       let l = length-drop from text in
       ⊎_elim
       (λ p. eq-eqb (count_before (Byte 0x0a) (drop from text)) (length (drop from text)) (omega arith) ∙ sym (lt-ltb _ _ p))
-      (λ p. ne_eqb (count_before (Byte 0x0a) (drop from text)) (length (drop from text)) (λ q. omega arith) ∙ sym (le-ltb _ _ p))
+      (λ p. ne_eqb (count_before (Byte 0x0a) (drop from text)) (length (drop from text)) (λ q. omega arith)
+      ∙ sym (le-ltb _ _ p))
       (lt_or_ge (length text) (to + 1))
 
   lines_more : lines_at text from ≡ record { from = from; to = to } ∷ lines_at text (to + 1)

@@ -1,5 +1,7 @@
 // What a descriptor's whole text says: its lines, judged one after the other up to the first that is at fault. Functions have
 // the names of their definitions in the crate `descriptor`.
+#![tactic(auto)]
+
 ghost use Rattle.std.specs.Prelude.{◌≡◌, ◌+◌, ◌≤◌, length};
 ghost use Rattle.descriptor.specs.Text.{lines};
 ghost use Rattle.descriptor.specs.Line.{line};

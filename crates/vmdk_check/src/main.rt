@@ -1,34 +1,32 @@
 // The small program: reads an image of up to 65,536 bytes from standard input and prints its verdict, one line.
-use format::Verdict;
-use libc::{STDIN_FILENO, STDOUT_FILENO};
+#![tactic(auto)]
 
-fn put_two(a: u64, b: u64) {
-    io::print_decimal(STDOUT_FILENO, a);
-    io::write_all(STDOUT_FILENO, b" ");
-    io::print_decimal(STDOUT_FILENO, b);
-    io::write_all(STDOUT_FILENO, b"\n");
+use format::Verdict;
+use std::io;
+
+fn put_two(rt: &impl Print, a: u64, b: u64) -> io::Result<()> {
+    println!(rt; "{a} {b}")
 }
 
-fn tell(v: Verdict) {
+fn tell(rt: &impl Print, v: Verdict) -> io::Result<()> {
     if v.number == 0 {
-        io::write_all(STDOUT_FILENO, b"accepted ");
-        put_two(v.capacity, v.grain_size);
-        return;
+        rt.write_all(b"accepted ")?;
+        return put_two(rt, v.capacity, v.grain_size);
     }
-    io::write_all(STDOUT_FILENO, b"refused ");
-    put_two(v.number, v.place);
+    rt.write_all(b"refused ")?;
+    put_two(rt, v.number, v.place)
 }
 
 // 37 where a byte is left after the buffer was filled.
-fn main() {
+fn main(rt: HostRuntime) -> io::Result<()> {
+    let mut input = rt.reader();
     let mut buffer = [0u8; 65536];
-    let n = io::read_full(STDIN_FILENO, &mut buffer);
+    let n = programs::read_full(&mut input, &mut buffer)?;
     let mut more = [0u8; 1];
-    let left = io::read_full(STDIN_FILENO, &mut more);
+    let left = programs::read_full(&mut input, &mut more)?;
     if 0 < left {
-        io::write_all(STDOUT_FILENO, b"refused 37 0\n");
-        return;
+        return rt.write_all(b"refused 37 0\n");
     }
     let all: &[u8] = &buffer;
-    tell(answers::verdict_of(accept::check(&all[..n])));
+    tell(&rt, answers::verdict_of(accept::check(&all[..n])))
 }

@@ -1,4 +1,6 @@
 // The walk over the blocks of a stream: markers are read, a payload never.
+#![tactic(auto)]
+
 ghost use Rattle.std.specs.Prelude.{◌≡◌, ◌*◌, ◌/◌, ◌≤◌, ◌<◌, eqb};
 ghost use Rattle.base.specs.Pick.{pick};
 ghost use Rattle.format.specs.Geometry.{file_sectors};
@@ -14,7 +16,7 @@ use format::closing::Block;
 const NO_GRAIN: u64 = 0x8000000000000000;
 
 // The next grain that is kept: its marker's sector, and how many sectors it takes. NO_GRAIN is the number of none.
-#[derive(Drop)]
+#[derive(Clone, Copy)]
 pub struct NextGrain {
     pub number: u64,
     pub sector: u64,
@@ -22,7 +24,7 @@ pub struct NextGrain {
 }
 
 // The kept sectors and grains, and the directory entries that have grains.
-#[derive(Drop)]
+#[derive(Clone, Copy)]
 pub struct Counted {
     pub sectors: u64,
     pub grains: u64,

@@ -1,4 +1,6 @@
 // How a lookup comes to its answer: the entries that stand on its way, by the lookup's own tests.
+#![tactic(auto)]
+
 ghost use Rattle.std.specs.Prelude.{◌≡◌, ◌+◌, ◌*◌, ◌/◌, ◌%◌, ◌≤◌, length};
 ghost use Rattle.format.specs.Way.{no_way, to_grain, to_directory, to_table, way_table, way_in, way};
 ghost use Rattle.format.specs.declared.Entry.TheVariants.{Sector};

@@ -1,4 +1,6 @@
 // Areas marked in a window: bit i of the words stands for file sector lo + i.
+#![tactic(auto)]
+
 ghost use Rattle.std.specs.Prelude.{◌≡◌, [], ◌∷◌, true, ◌+◌, ◌-◌, ◌^◌, ◌<◌, min};
 ghost use Rattle.format.specs.Areas.{area, if_there};
 ghost use Rattle.window.specs.Run.{Run, Counted};

@@ -1,9 +1,12 @@
 // What a descriptor's line is made of: runs of bytes, words, numbers, quoted parts; and where a line ends. Functions have the
 // names of their definitions in the crate `descriptor`. A part of a line is a part of its slice: nothing is copied.
+#![tactic(auto)]
+
 ghost use Rattle.std.specs.Prelude.{◌≡◌, ◌+◌, ◌≤◌, ◌<◌, length, get_or, drop};
 ghost use Rattle.descriptor.specs.declared.Stop.TheVariants.{Byte};
 ghost use Rattle.descriptor.specs.Words.{stops, count_before, before, rest, trim_start, kept, trim_end, word, after_word};
-ghost use Rattle.descriptor.specs.Words.{no_value, digit_value, numeral_from, numeral, decimal, hex, to_quote_at, to_quote};
+ghost use Rattle.descriptor.specs.Words.{no_value, digit_value, numeral_from, numeral, decimal_value, hex, to_quote_at};
+ghost use Rattle.descriptor.specs.Words.{to_quote};
 ghost use Rattle.descriptor.specs.Words.{quoted_length, after_quoted};
 
 use descriptor::Stop;
@@ -183,7 +186,7 @@ fn numeral(w: &[u8], base: u64, most: usize) -> u64
 
 // 1 to 10 decimal digits.
 pub fn decimal(w: &[u8]) -> u64
-    ensures { result ≡ decimal w.now }
+    ensures { result ≡ decimal_value w.now }
 {
     numeral(w, 10, 10)
 }

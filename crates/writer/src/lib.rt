@@ -1,4 +1,6 @@
 // The image of two layers, of either kind, written grain by grain.
+#![tactic(auto)]
+
 ghost use Rattle.std.specs.Prelude.{◌≡◌, ◌+◌, ◌*◌, ◌≤◌, length, drop};
 ghost use Rattle.base.specs.Bytes.{over};
 ghost use Rattle.format.specs.Grains.{clip};

@@ -1,0 +1,13 @@
+use borrow.Author.Rules.{rules}
+use Rattle.accept.proofs.AcceptedHeaders.{checked_of}
+use Rattle.survey.proofs.RowLaws.{row_refused, row_accepted, small_refused}
+use Rattle.survey.proofs.row_of.Goals as goal
+
+pub accepted_row-requires : goal.accepted_row-requires
+accepted_row-requires c = search checked_of
+
+pub returns-in-Refused : goal.returns-in-Refused
+returns-in-Refused c = (search row_refused, search small_refused)
+
+pub returns-in-Known : goal.returns-in-Known
+returns-in-Known c = (search row_accepted, search rules)

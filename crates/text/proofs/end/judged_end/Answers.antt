@@ -1,0 +1,15 @@
+use Rattle.descriptor.specs.Descriptor.{judged_end}
+use Rattle.base.proofs.Steps.{steps}
+use Rattle.text.proofs.end.judged_end.Goals as goal
+
+pub returns-then-missing : goal.returns-then-missing
+unfolding judged_end
+returns-then-missing c = search steps depth 8
+
+pub returns-then-extents_bad : goal.returns-then-extents_bad
+unfolding judged_end
+returns-then-extents_bad c = search steps depth 8
+
+pub returns : goal.returns
+unfolding judged_end
+returns c = search steps depth 8
