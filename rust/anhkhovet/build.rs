@@ -1,4 +1,4 @@
-//! Links the archive that `rt staticlib exports` writes: target/staticlib/libexports.a, or where ANHKHOVET_ARCHIVE says.
+//! Links the archive that `rust/tool/archive` has made: target/staticlib/libexports.a, or where ANHKHOVET_ARCHIVE says.
 
 use std::env;
 use std::path::PathBuf;
@@ -25,7 +25,7 @@ fn main() {
     }
     if !archive.is_file() {
         let place = archive.display();
-        stop(&format!("no archive at {place}: run `rt staticlib exports` in the repository, or set ANHKHOVET_ARCHIVE to {NAME} or its folder"));
+        stop(&format!("no archive at {place}: run `rust/tool/archive` in the repository, or set ANHKHOVET_ARCHIVE to {NAME} or its folder"));
     }
     if let Some(folder) = archive.parent() {
         println!("cargo:rustc-link-search=native={}", folder.display());
