@@ -22,7 +22,8 @@ def rattle(pattern):
 def source_structs():
     """What each struct that C sees has for fields, by its name."""
     found = {}
-    for name, body in re.findall(r"#\[repr\(C\)\]\s*pub struct (\w+) \{(.*?)\}", rattle("crates/*/src/**/*.rt"), re.S):
+    seen_by_c = r"#\[repr\(C\)\]\s*(?:#\[[^\]]*\]\s*)*pub struct (\w+) \{(.*?)\}"
+    for name, body in re.findall(seen_by_c, rattle("crates/*/src/**/*.rt"), re.S):
         found[name] = re.findall(r"pub (\w+): (\w+),", body)
     return found
 
