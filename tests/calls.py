@@ -36,13 +36,12 @@ def edits():
 def lacks(call, wrong):
     """Each place that a call has to have, and does not."""
     binding, plain, compare = (f"rust/{package}/src/**/*.rs" for package in ("anhkhovet", "plain", "compare"))
-    theorem = call.replace("_", "-")
     places = {
         "two must-fail edits with a line '# call:'": len(wrong) >= 2,
-        f"`{theorem}-determined` in crates/exports/proofs/Determined*.antt":
-            f"{theorem}-determined" in names("crates/exports/proofs/Determined*.antt"),
-        f"`{theorem}-varies` in crates/examples/proofs/NotConstant*.antt":
-            f"{theorem}-varies" in names("crates/examples/proofs/NotConstant*.antt"),
+        f"`{call}_determined` in crates/exports/proofs/Determined*.antt":
+            f"{call}_determined" in names("crates/exports/proofs/Determined*.antt"),
+        f"`{call}_varies` in crates/examples/proofs/NotConstant*.antt":
+            f"{call}_varies" in names("crates/examples/proofs/NotConstant*.antt"),
         "a row in docs/PROMISES.md, Public calls": f"| `anhkhovet_{call}` |" in text("docs/PROMISES.md"),
         f"a line '{call} ..' in crates/cases/stdout": re.search(rf"(?m)^{call} ", text("crates/cases/stdout")),
         f"`anhkhovet_{call}` declared in rust/anhkhovet": f"pub fn anhkhovet_{call}(" in text(binding),
@@ -62,8 +61,8 @@ def lacks(call, wrong):
 
 
 def theorems(pattern, ending):
-    """The calls that theorems with this ending are about; where a call has an underscore, they have a hyphen."""
-    return [name.replace("-", "_") for name in re.findall(rf"(\S+)-{ending}", " ".join(names(pattern)))]
+    """The calls that theorems with this ending are about."""
+    return re.findall(rf"(\S+)_{ending}", " ".join(names(pattern)))
 
 
 def strangers(wrong):

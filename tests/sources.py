@@ -6,6 +6,12 @@ root = Path(__file__).resolve().parent.parent
 COMMENT = {".antt": r"(?m)(^|\s)--( .*)?$", ".rt": r"(?m)(^|\s)//.*$", ".rs": r"(?m)(^|\s)//.*$"}
 
 
+def written(*patterns):
+    """The files of crates/ with such names, but for what rt keeps in crates/*/out."""
+    found = [path for pattern in patterns for path in root.glob(f"crates/**/{pattern}")]
+    return sorted(path for path in found if path.relative_to(root).parts[2] != "out")
+
+
 def code(path):
     """A file's text without its comments."""
     return re.sub(COMMENT.get(path.suffix, r"(?!)"), "", path.read_text())

@@ -1,9 +1,8 @@
 #!/usr/bin/env python3
 """Prints each line of Rattle or antt that is over 128 characters: tests/wide.py. A list of what to unfold can't be broken."""
-from pathlib import Path
+from sources import root, written
 
-root = Path(__file__).resolve().parent.parent
-for path in sorted([*root.glob('crates/**/*.rt'), *root.glob('crates/**/*.antt')]):
+for path in written("*.rt", "*.antt"):
     for number, line in enumerate(path.read_text().splitlines(), 1):
         if len(line) > 128 and not line.lstrip().startswith('unfolding '):
             print(f'{path.relative_to(root)}:{number}: {len(line)}')
