@@ -140,7 +140,7 @@ def told_in(path, start):
 
 def kinds(header):
     """The kinds of answers against what the sources say of them."""
-    format_rt, descriptor_rt, face = "crates/format/src/lib.rt", "crates/descriptor/src/lib.rt", "rust/anhkhovet/src/face.rs"
+    format_rt, descriptor_rt, face = "crates/format/src/numbers.rt", "crates/descriptor/src/lib.rt", "rust/anhkhovet/src/face.rs"
     return (differing("source", told_in(format_rt, "kind: "), words_of(header, "Source"))
             + differing("access", told_in(descriptor_rt, "(?=1 RW)"), words_of(header, "Access"))
             + differing("extent", told_in(descriptor_rt, "type: "), words_of(header, "ExtentKind"))

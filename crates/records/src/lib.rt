@@ -17,8 +17,8 @@ pub fn record_at(records: [Extent; 32], i: usize) -> Extent
 }
 
 // The first `count` of the records are stored at the front of the list, if it has room for them; else nothing changes.
-fn store(list: &mut [Extent], records: [Extent; 32], count: usize) -> bool
-    ensures { (result ≡ fits list.old count) × (list.new ≡ stored list.old records count) }
+fn store(list: &mut [Extent], records: &[Extent; 32], count: usize) -> bool
+    ensures { (result ≡ fits list.old count) × (list.new ≡ stored list.old records.now count) }
 {
     if 32 < count {
         return false;
@@ -28,7 +28,7 @@ fn store(list: &mut [Extent], records: [Extent; 32], count: usize) -> bool
     }
     let mut at: usize = 0;
     while at < count {
-        list[at] = record_at(records, at);
+        list[at] = records[at];
         at += 1;
     }
     true
@@ -40,7 +40,7 @@ pub fn describe(text: &[u8], list: &mut [Extent]) -> Described
         × (list.new ≡ descriptor_list text.now list.old) }
 {
     let p = text::parse(text);
-    let fit = store(list, p.records, p.count);
+    let fit = store(list, &p.records, p.count);
     text::answers::answered(p, fit)
 }
 

@@ -17,40 +17,44 @@ mod end;
 mod state;
 
 // A line after the first one that is not empty: an extent's first sector is the sum so far.
-fn taken_line(st: State, end: u64, w: &[u8]) -> State
-    requires few { Few 65536 st }
+fn taken_line(st: &mut State, end: u64, w: &[u8])
+    requires few { Few 65536 st.old }
     requires within { Within end w.now }
-    ensures { (result ≡ taken st (line st.sum end w.now)) × Few (st.line + 1) result }
+    ensures { (st.new ≡ taken st.old (line st.old.sum end w.now)) × Few (st.old.line + 1) st.new }
 {
-    state::taken(st, lines::line(st.sum, end, w))
+    let l = lines::line(st.sum, end, w);
+    state::taken(&mut *st, l);
 }
 
 // The trimmed line w, which ends at the place `end`.
-fn judged_line(st: State, end: u64, w: &[u8]) -> State
-    requires few { Few 65536 st }
+fn judged_line(st: &mut State, end: u64, w: &[u8])
+    requires few { Few 65536 st.old }
     requires within { Within end w.now }
-    ensures { (result ≡ judged_line st end w.now) × Few (st.line + 1) result }
+    ensures { (st.new ≡ judged_line st.old end w.now) × Few (st.old.line + 1) st.new }
 {
     if st.begun {
-        return taken_line(st, end, w);
+        taken_line(&mut *st, end, w);
+        return;
     }
     if w.len() == 0 {
-        return state::skipped(st);
+        state::skipped(&mut *st);
+        return;
     }
     if base::same_word(w, b"# disk descriptorfile") {
-        return state::opened(st);
+        state::opened(&mut *st);
+        return;
     }
-    state::refused(30, 0, st)
+    state::refused(30, 0, &mut *st);
 }
 
 // The line from a place of the text to another.
-fn step(text: &[u8], st: State, from: usize, to: usize) -> State
-    requires few { Few 65536 st }
+fn step(text: &[u8], st: &mut State, from: usize, to: usize)
+    requires few { Few 65536 st.old }
     requires from_le_to { (from ≤ to) × (to ≤ length text.now) × (length text.now ≤ 65536) }
-    ensures { (result ≡ step text.now st (record { from = from; to = to })) × Few (st.line + 1) result }
+    ensures { (st.new ≡ step text.now st.old (record { from = from; to = to })) × Few (st.old.line + 1) st.new }
 {
     let w = words::trim_end(&text[from..to]);
-    judged_line(st, (from + w.len()) as u64, words::trim_start(w))
+    judged_line(&mut *st, (from + w.len()) as u64, words::trim_start(w));
 }
 
 // Line by line, each scanned for its end once.
@@ -62,20 +66,23 @@ fn judged(text: &[u8]) -> State
     let mut from = 0;
     while from <= text.len() {
         let to = words::line_end(text, from);
-        st = step(text, st, from, to);
+        step(text, &mut st, from, to);
         if st.number != 0 {
             return st;
         }
         from = to + 1;
     }
-    end::ended(st)
+    end::ended(&mut st);
+    st
 }
 
 // A refusal before any line is read.
 fn refused_first(number: u64) -> State
     ensures { result ≡ refused number 0 start }
 {
-    state::refused(number, 0, state::start())
+    let mut st = state::start();
+    state::refused(number, 0, &mut st);
+    st
 }
 
 // What a descriptor's bytes say, where they are not too many: the text is all up to the first zero byte, and from there on only

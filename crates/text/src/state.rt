@@ -1,4 +1,5 @@
-// What is known after some lines, and how a line changes it.
+// What is known after some lines, and how a line changes it: in place, so that a thread with 16 KiB of stack is enough for
+// the calls on texts.
 ghost use Rattle.std.specs.Prelude.{◌≡◌, ◌+◌, ◌≤◌, ◌<◌};
 ghost use Rattle.descriptor.specs.Descriptor.{start, refused, skipped, opened, added, noted, once, taken};
 ghost use Rattle.lines.specs.LineBounds.{Bounded};
@@ -36,91 +37,87 @@ pub fn start() -> State
 }
 
 // A refusal's number and place.
-pub fn refused(number: u64, place: u64, st: State) -> State
-    requires { Few 65537 st }
-    ensures { (result ≡ refused number place st) × Few (st.line + 1) result }
+pub fn refused(number: u64, place: u64, st: &mut State)
+    requires { Few 65537 st.old }
+    ensures { (st.new ≡ refused number place st.old) × Few (st.old.line + 1) st.new }
 {
-    let mut s = st;
-    s.number = number;
-    s.place = place;
-    s
+    st.number = number;
+    st.place = place;
 }
 
 // A line that says nothing.
-pub fn skipped(st: State) -> State
-    requires { Few 65536 st }
-    ensures { (result ≡ skipped st) × Few (st.line + 1) result }
+pub fn skipped(st: &mut State)
+    requires { Few 65536 st.old }
+    ensures { (st.new ≡ skipped st.old) × Few (st.old.line + 1) st.new }
 {
-    let mut s = st;
-    s.number = 0;
-    s.place = 0;
-    s.line = st.line + 1;
-    s
+    st.number = 0;
+    st.place = 0;
+    st.line += 1;
 }
 
 // The first line.
-pub fn opened(st: State) -> State
-    requires { Few 65536 st }
-    ensures { (result ≡ opened st) × Few (st.line + 1) result }
+pub fn opened(st: &mut State)
+    requires { Few 65536 st.old }
+    ensures { (st.new ≡ opened st.old) × Few (st.old.line + 1) st.new }
 {
-    let mut s = skipped(st);
-    s.begun = true;
-    s
+    skipped(&mut *st);
+    st.begun = true;
 }
 
 // An extent; past 32 there is no record for it.
-fn added(e: Extent, st: State) -> State
-    requires few { Few 65536 st }
+fn added(e: Extent, st: &mut State)
+    requires few { Few 65536 st.old }
     requires sectors_bound { e.sectors ≤ 0x80000000 }
-    ensures { (result ≡ added e st) × Few (st.line + 1) result }
+    ensures { (st.new ≡ added e st.old) × Few (st.old.line + 1) st.new }
 {
-    let mut s = skipped(st);
-    s.extents = st.extents + 1;
-    s.sum = st.sum + e.sectors;
     let at = st.extents as usize;
+    let extents = st.extents + 1;
+    let sum = st.sum + e.sectors;
+    skipped(&mut *st);
+    st.extents = extents;
+    st.sum = sum;
     if at < 32 {
-        s.records[at] = e;
+        st.records[at] = e;
     }
-    s
 }
 
 // A required key, for the first time.
-fn noted(key: u64, value: u64, length: u64, st: State) -> State
-    requires few { Few 65536 st }
+fn noted(key: u64, value: u64, length: u64, st: &mut State)
+    requires few { Few 65536 st.old }
     requires key_bound { key < 5 }
-    ensures { (result ≡ noted key value length st) × Few (st.line + 1) result }
+    ensures { (st.new ≡ noted key value length st.old) × Few (st.old.line + 1) st.new }
 {
-    let mut s = skipped(st);
+    skipped(&mut *st);
     let at = key as usize;
-    s.values[at] = value;
-    s.lengths[at] = length;
-    s
+    st.values[at] = value;
+    st.lengths[at] = length;
 }
 
 // A required key comes once: a second line is 33.
-fn once(key: u64, value: u64, length: u64, st: State) -> State
-    requires few { Few 65536 st }
+fn once(key: u64, value: u64, length: u64, st: &mut State)
+    requires few { Few 65536 st.old }
     requires key_bound { key < 5 }
-    ensures { (result ≡ once key value length st) × Few (st.line + 1) result }
+    ensures { (st.new ≡ once key value length st.old) × Few (st.old.line + 1) st.new }
 {
     let at = key as usize;
     let old = st.values[at];
     if old == words::NO_VALUE {
-        return noted(key, value, length, st);
+        noted(key, value, length, &mut *st);
+        return;
     }
-    refused(33, st.line + 1, st)
+    refused(33, st.line + 1, &mut *st);
 }
 
 // What a line says is taken in.
-pub fn taken(st: State, l: Line) -> State
-    requires few { Few 65536 st }
+pub fn taken(st: &mut State, l: Line)
+    requires few { Few 65536 st.old }
     requires bounded { Bounded l }
-    ensures { (result ≡ taken st l) × Few (st.line + 1) result }
+    ensures { (st.new ≡ taken st.old l) × Few (st.old.line + 1) st.new }
 {
     match l {
-        Line::Skip => skipped(st),
-        Line::Fault(number) => refused(number, st.line + 1, st),
-        Line::Holds(e) => added(e, st),
-        Line::Key(key, value, length) => once(key, value, length, st),
+        Line::Skip => skipped(&mut *st),
+        Line::Fault(number) => refused(number, st.line + 1, &mut *st),
+        Line::Holds(e) => added(e, &mut *st),
+        Line::Key(key, value, length) => once(key, value, length, &mut *st),
     }
 }

@@ -10,6 +10,6 @@ pub returns-then-extents_bad : goal.returns-then-extents_bad
 unfolding judged_end
 returns-then-extents_bad c = search steps depth 8
 
-pub returns : goal.returns
+pub returns-else-extents_bad : goal.returns-else-extents_bad
 unfolding judged_end
-returns c = search steps depth 8
+returns-else-extents_bad c = search steps depth 8
