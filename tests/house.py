@@ -188,6 +188,8 @@ def problems():
     for name in edits:
         if name not in refused:
             yield f"{LAST.relative_to(root)}, the log of the last rt ci, does not tell that {name} was refused"
+        elif refused_at(refused[name]) == "a limit":
+            yield f"{name} is refused only by a limit of the prover, which is no verdict: {refused[name]}"
         elif changes(name) != "specs" and only_shape(refused[name], shapes.get(name)):
             yield f"{name} only breaks the code's shape: {refused[name]}"
 
