@@ -11,40 +11,37 @@ use Rattle.format.specs.Check.{check_grains}
 use Rattle.format.specs.Check.{check_layout}
 use Rattle.format.specs.CheckIn.{came_to_marking}
 use Rattle.format.specs.declared.Header.{Header}
-use Rattle.format.specs.declared.Lowest.{Lowest}
-use Rattle.format.specs.declared.Lowest.TheVariants.{None, Grain}
 use Rattle.format.specs.declared.MisplacedPart.{MisplacedPart}
 use Rattle.format.specs.declared.Refusal.{Refusal}
 use Rattle.format.specs.declared.Refusal.TheVariants.{Misplaced, GrainPast, Marker, CopiesDiffer}
-use Rattle.format.specs.declared.CheckAnswer.{CheckAnswer}
-use Rattle.format.specs.declared.CheckAnswer.TheVariants.{Accepted, Refused}
-use Rattle.format.specs.declared.HeaderAnswer.{HeaderAnswer}
-use Rattle.format.specs.declared.HeaderAnswer.TheVariants.{Known, Refused as unknown}
 use Rattle.format.proofs.CameToMarking.{Early}
 use Rattle.accept.specs.Unmarked.{unmarked_of}
+use Rattle.std.specs.Prelude.{Result, Ok, Err, Option, Some, None}
+use Rattle.format.specs.declared.Shape.{Shape}
 
-pub early_refused : (x : Refusal) (h : Header) → Early x → unmarked_of (Refused x) h ≡ unknown x
+pub early_refused : (x : Refusal) (h : Header) → Early x → unmarked_of (Err x) h ≡ Err x
 unfolding unmarked_of pick
 early_refused x h e = rw e
 
 -- what 12 is judged over
-pub apart_known : (s : List ℕ) (h : Header) → Known h ≡ unmarked_of (check_apart s h) h
+pub apart_known : (s : List ℕ) (h : Header) → Ok h ≡ unmarked_of (check_apart s h) h
 unfolding check_apart unmarked_of came_to_marking pick
-apart_known s h = cond_all (λ a. Known h ≡ unmarked_of a h) (meet (areas s h)) _ _ (λ t. refl) (λ n. refl)
+apart_known s h = cond_all (λ a. Ok h ≡ unmarked_of a h) (meet (areas s h)) _ _ (λ t. refl) (λ n. refl)
 
 -- ---- one rule, broken or not
-module _ (z : HeaderAnswer) (h : Header) (b r : Bool) (is : r ≡ b) (y : CheckAnswer) where
-  rule_broken : (x : Refusal) → Early x → r ≡ true → z ≡ unknown x → z ≡ unmarked_of (pick b (Refused x) y) h
+module _ (z : Result Header Refusal) (h : Header) (b r : Bool) (is : r ≡ b) (y : Result Shape Refusal) where
+  rule_broken : (x : Refusal) → Early x → r ≡ true → z ≡ Err x → z ≡ unmarked_of (pick b (Err x) y) h
   unfolding pick
   rule_broken x e t q = rw (← is, t) (q ∙ sym (early_refused x h e))
 
-  rule_kept : (x : Refusal) → r ≡ false → z ≡ unmarked_of y h → z ≡ unmarked_of (pick b (Refused x) y) h
+  rule_kept : (x : Refusal) → r ≡ false → z ≡ unmarked_of y h → z ≡ unmarked_of (pick b (Err x) y) h
   unfolding pick
   rule_kept x t q = rw (← is, t) q
 
 -- ---- the lowest grain at fault, or none
-module _ (z : HeaderAnswer) (h : Header) (l e : Lowest) (is : l ≡ e) (y : CheckAnswer) (refusal : ℕ → Refusal) where
-  grain_found : (g : ℕ) → Early (refusal g) → l ≡ Grain g → z ≡ unknown (refusal g)
+module _ (z : Result Header Refusal) (h : Header) (l e : Option ℕ) (is : l ≡ e) (y : Result Shape Refusal)
+    (refusal : ℕ → Refusal) where
+  grain_found : (g : ℕ) → Early (refusal g) → l ≡ Some g → z ≡ Err (refusal g)
       → z ≡ unmarked_of (unless_grain e refusal y) h
   unfolding unless_grain
   grain_found g n t q = rw (← is, t) (q ∙ sym (early_refused (refusal g) h n))
@@ -54,18 +51,18 @@ module _ (z : HeaderAnswer) (h : Header) (l e : Lowest) (is : l ≡ e) (y : Chec
   grain_none t q = rw (← is, t) q
 
 -- ---- 8 to 11
-module _ (s : List ℕ) (h : Header) (z : HeaderAnswer) where
+module _ (s : List ℕ) (h : Header) (z : Result Header Refusal) where
   module _ (r : Bool) where
-    pub copies_broken : r ≡ copies_differ s h → r ≡ true → z ≡ unknown CopiesDiffer → z ≡ unmarked_of (check_copies s h) h
+    pub copies_broken : r ≡ copies_differ s h → r ≡ true → z ≡ Err CopiesDiffer → z ≡ unmarked_of (check_copies s h) h
     unfolding check_copies came_to_marking
     copies_broken is t q = rule_broken z h (copies_differ s h) r is (check_apart s h) CopiesDiffer refl t q
 
-    pub copies_kept : r ≡ copies_differ s h → r ≡ false → z ≡ Known h → z ≡ unmarked_of (check_copies s h) h
+    pub copies_kept : r ≡ copies_differ s h → r ≡ false → z ≡ Ok h → z ≡ unmarked_of (check_copies s h) h
     unfolding check_copies
     copies_kept is t q = rule_kept z h (copies_differ s h) r is (check_apart s h) CopiesDiffer t (q ∙ apart_known s h)
 
     pub places_broken : (p : MisplacedPart) → r ≡ misplaced s h → r ≡ true → p ≡ lowest_misplaced s h
-        → z ≡ unknown (Misplaced p)
+        → z ≡ Err (Misplaced p)
         → z ≡ unmarked_of (check_layout s h) h
     unfolding check_layout came_to_marking
     places_broken p is t low q =
@@ -76,11 +73,11 @@ module _ (s : List ℕ) (h : Header) (z : HeaderAnswer) where
     unfolding check_layout
     places_kept is t q = rule_kept z h (misplaced s h) r is (check_grains s h) _ t q
 
-  module _ (l e : Lowest) (is : l ≡ e) (y : CheckAnswer) (g : ℕ) (t : l ≡ Grain g) where
-    pub past_found : z ≡ unknown (GrainPast g) → z ≡ unmarked_of (unless_grain e GrainPast y) h
+  module _ (l e : Option ℕ) (is : l ≡ e) (y : Result Shape Refusal) (g : ℕ) (t : l ≡ Some g) where
+    pub past_found : z ≡ Err (GrainPast g) → z ≡ unmarked_of (unless_grain e GrainPast y) h
     unfolding came_to_marking
     past_found q = grain_found z h l e is y GrainPast g refl t q
 
-    pub marker_found : z ≡ unknown (Marker g) → z ≡ unmarked_of (unless_grain e Marker y) h
+    pub marker_found : z ≡ Err (Marker g) → z ≡ unmarked_of (unless_grain e Marker y) h
     unfolding came_to_marking
     marker_found q = grain_found z h l e is y Marker g refl t q

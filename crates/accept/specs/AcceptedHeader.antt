@@ -3,15 +3,14 @@ use Rattle.std.specs.Prelude.{◌≡◌, List, ℕ}
 use Rattle.format.specs.Header.{header_of}
 use Rattle.format.specs.Judged.{Filed}
 use Rattle.format.specs.declared.Header.{Header}
-use Rattle.format.specs.declared.CheckAnswer.{CheckAnswer}
-use Rattle.format.specs.declared.CheckAnswer.TheVariants.{Accepted, Refused as unaccepted}
-use Rattle.format.specs.declared.HeaderAnswer.{HeaderAnswer}
-use Rattle.format.specs.declared.HeaderAnswer.TheVariants.{Known, Refused as unknown}
+use Rattle.std.specs.Prelude.{Result, Ok, Err}
+use Rattle.format.specs.declared.Shape.{Shape}
+use Rattle.format.specs.declared.Refusal.{Refusal}
 
 -- the header of an image that the check accepts, or why it is refused
-unfoldable pub accepted_header : CheckAnswer → Header → HeaderAnswer
-accepted_header (unaccepted r) h = unknown r
-accepted_header (Accepted capacity size) h = Known h
+unfoldable pub accepted_header : Result Shape Refusal → Header → Result Header Refusal
+accepted_header (Err r) h = Err r
+accepted_header (Ok sizes) h = Ok h
 
 -- what an accepted image's header is, and what the check found
 pub record Checked (s : List ℕ) (h : Header) : Type 0 where

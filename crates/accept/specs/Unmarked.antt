@@ -2,11 +2,10 @@
 use Rattle.base.specs.Pick.{pick}
 use Rattle.format.specs.CheckIn.{came_to_marking}
 use Rattle.format.specs.declared.Header.{Header}
-use Rattle.format.specs.declared.CheckAnswer.{CheckAnswer}
-use Rattle.format.specs.declared.CheckAnswer.TheVariants.{Accepted, Refused}
-use Rattle.format.specs.declared.HeaderAnswer.{HeaderAnswer}
-use Rattle.format.specs.declared.HeaderAnswer.TheVariants.{Known, Refused as unknown}
+use Rattle.std.specs.Prelude.{Result, Ok, Err}
+use Rattle.format.specs.declared.Shape.{Shape}
+use Rattle.format.specs.declared.Refusal.{Refusal}
 
-unfoldable pub unmarked_of : CheckAnswer → Header → HeaderAnswer
-unmarked_of (Accepted capacity size) h = Known h
-unmarked_of (Refused r) h = pick (came_to_marking (Refused r)) (Known h) (unknown r)
+unfoldable pub unmarked_of : Result Shape Refusal → Header → Result Header Refusal
+unmarked_of (Ok sizes) h = Ok h
+unmarked_of (Err r) h = pick (came_to_marking (Err r)) (Ok h) (Err r)

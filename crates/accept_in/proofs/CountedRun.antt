@@ -22,7 +22,7 @@ use Rattle.format.proofs.Inside.{one_in, in_one, none_in}
 use Rattle.format.proofs.MarkedSectors.{sectors_sum, before_in}
 use Rattle.marks.specs.Marks.{marked, Free, Taken}
 use Rattle.window.specs.Run.{low, high, Run, done, next, met}
-use Rattle.window.proofs.RunLaws.{run_length}
+use Rattle.window.specs.TakenRuns.{run_length}
 use Rattle.overlap.proofs.Told.{Stands, stands_put, stands_none, run_free, run_met}
 use Rattle.counts.specs.MarkedCount.{marked_count, Emptied}
 use Rattle.accept_in.specs.Lent.{Told}

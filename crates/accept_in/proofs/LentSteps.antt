@@ -23,10 +23,6 @@ use Rattle.format.specs.declared.Taken.TheVariants.{KdmvAlone}
 use Rattle.format.specs.declared.Header.{Header}
 use Rattle.format.specs.declared.Refusal.{Refusal}
 use Rattle.format.specs.declared.Refusal.TheVariants.{TooLittleRoom, SharedSector}
-use Rattle.format.specs.declared.CheckAnswer.{CheckAnswer}
-use Rattle.format.specs.declared.CheckAnswer.TheVariants.{Accepted, Refused}
-use Rattle.format.specs.declared.HeaderAnswer.{HeaderAnswer}
-use Rattle.format.specs.declared.HeaderAnswer.TheVariants.{Known, Refused as unknown}
 use Rattle.format.specs.declared.MarkedAnswer.{MarkedAnswer}
 use Rattle.format.proofs.HeaderJudged.{judged_header}
 use Rattle.format.specs.Judged.{Unmarked}
@@ -34,10 +30,12 @@ use Rattle.format.proofs.CameToMarking.{apart_came}
 use Rattle.accept.specs.Unmarked.{unmarked_of}
 use Rattle.accept.proofs.UnmarkedLeft.{refused_left}
 use Rattle.accept_in.specs.Lent.{Told, answer_of, unmarked_by, Lent}
+use Rattle.std.specs.Prelude.{Result, Err}
+use Rattle.format.specs.AnswerParts.{accepted_as}
 
 -- the answer by what marking told
 answer_same : (b : Bool) (h : Header) (m : ℕ)
-    → (let a = pick b (Refused SharedSector) (Accepted h.capacity h.grain_size) in
+    → (let a = pick b (Err SharedSector) (accepted_as h.capacity h.grain_size) in
     ◌≡◌ {A = MarkedAnswer} (answer_of h b m) (record { checked = a; marked = pick (came_to_marking a) m 0 }))
 unfolding answer_of came_to_marking pick
 answer_same true h m = refl
@@ -49,7 +47,7 @@ module _ (s : List ℕ) (h : Header) (u : Unmarked KdmvAlone s h) where
 
   -- 21: nothing is marked, and the list is kept
   module _ (list : List ℕ) (needed : ℕ) (is : needed ≡ words_needed s) where
-    short_room : length list < needed → check_in_room s (length list) ≡ Refused TooLittleRoom
+    short_room : length list < needed → check_in_room s (length list) ≡ Err TooLittleRoom
     unfolding check_in_room pick
     short_room l = rw (came, lt-ltb (length list) (words_needed s) (omega arith))
 
@@ -91,8 +89,9 @@ module _ (s : List ℕ) (h : Header) (u : Unmarked KdmvAlone s h) where
           }
 
 -- ---- a refusal before 12: nothing is marked, and the list is kept
-module _ (s : List ℕ) (a : HeaderAnswer) (e : a ≡ unmarked_of (check s) (header_of s)) (r : Refusal) (q : a ≡ unknown r) where
-  refused_room : (room : ℕ) → (check_in_room s room ≡ Refused r) × (came_to_marking (Refused r) ≡ false)
+module _ (s : List ℕ) (a : Result Header Refusal) (e : a ≡ unmarked_of (check s) (header_of s)) (r : Refusal)
+    (q : a ≡ Err r) where
+  refused_room : (room : ℕ) → (check_in_room s room ≡ Err r) × (came_to_marking (Err r) ≡ false)
   unfolding check_in_room pick
   refused_room room =
       let n = refused_left (check s) (header_of s) r (sym e ∙ q) in (rw n.1 n.0, rw n.0 at n.1)

@@ -1,2 +1,3 @@
 pub mod CountedRun
 pub mod LentSteps
+pub mod ZerosMarked

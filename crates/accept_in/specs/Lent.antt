@@ -7,8 +7,9 @@ use Rattle.format.specs.CheckIn.{marked_sectors, check_in, list_after_check}
 use Rattle.format.specs.declared.Header.{Header}
 use Rattle.format.specs.declared.Refusal.{Refusal}
 use Rattle.format.specs.declared.Refusal.TheVariants.{SharedSector}
-use Rattle.format.specs.declared.CheckAnswer.TheVariants.{Accepted, Refused}
 use Rattle.format.specs.declared.MarkedAnswer.{MarkedAnswer}
+use Rattle.std.specs.Prelude.{Err}
+use Rattle.format.specs.AnswerParts.{accepted_as}
 
 -- the areas were marked in words that are zero afterwards
 pub record Told (l : List Area) (before after : List ℕ) (met : Bool) (marked : ℕ) : Type 0 where
@@ -19,11 +20,11 @@ pub record Told (l : List Area) (before after : List ℕ) (met : Bool) (marked :
 -- the answers: 12 or acceptance by what marking told, and a refusal before 12
 unfoldable pub answer_of : Header → Bool → ℕ → MarkedAnswer
 answer_of h met marked =
-    pick met (record { checked = Refused SharedSector; marked = marked })
-    (record { checked = Accepted h.capacity h.grain_size; marked = marked })
+    pick met (record { checked = Err SharedSector; marked = marked })
+    (record { checked = accepted_as h.capacity h.grain_size; marked = marked })
 
 abbrev pub unmarked_by : Refusal → MarkedAnswer
-unmarked_by r = record { checked = Refused r; marked = 0 }
+unmarked_by r = record { checked = Err r; marked = 0 }
 
 -- the whole call
 pub record Lent (s list : List ℕ) (r : MarkedAnswer) (after : List ℕ) : Type 0 where

@@ -9,7 +9,7 @@ ghost use Rattle.format.specs.Judged.{Unmarked};
 ghost use Rattle.format.specs.declared.Taken.TheVariants.{KdmvAlone};
 ghost use Rattle.accept_in.specs.Lent.{Told, answer_of, unmarked_by, Lent};
 
-use format::{CheckAnswer, Header, HeaderAnswer, MarkedAnswer, Refusal, Taken};
+use format::{Header, MarkedAnswer, Refusal, Shape, Taken};
 
 // A word for every 64 file sectors, rounded up.
 fn words_needed(image: &[u8]) -> usize
@@ -42,15 +42,15 @@ fn answered(h: Header, met: bool, marked: u64) -> MarkedAnswer
 {
     if met {
         return MarkedAnswer {
-            checked: CheckAnswer::Refused(Refusal::SharedSector),
+            checked: Err(Refusal::SharedSector),
             marked,
         };
     }
     MarkedAnswer {
-        checked: CheckAnswer::Accepted {
+        checked: Ok(Shape {
             capacity: h.capacity,
             grain_size: h.grain_size,
-        },
+        }),
         marked,
     }
 }
@@ -60,7 +60,7 @@ fn unmarked_by(refusal: Refusal) -> MarkedAnswer
     ensures { result ≡ unmarked_by refusal }
 {
     MarkedAnswer {
-        checked: CheckAnswer::Refused(refusal),
+        checked: Err(refusal),
         marked: 0,
     }
 }
@@ -86,7 +86,7 @@ pub fn check_in(image: &[u8], list: &mut [u64]) -> MarkedAnswer
 {
     let left = accept::unmarked_of(Taken::KdmvAlone, image);
     match left {
-        HeaderAnswer::Refused(r) => unmarked_by(r),
-        HeaderAnswer::Known(h) => check_apart_in(image, h, &mut *list),
+        Err(r) => unmarked_by(r),
+        Ok(h) => check_apart_in(image, h, &mut *list),
     }
 }

@@ -1,6 +1,5 @@
 -- What a comparison with bytes that are to stand somewhere finds.
 use Rattle.std.specs.Prelude.{ℕ, ◌+◌, ◌≤◌, ◌<◌, ◌≡◌, List, length, get_or}
-use Rattle.base.specs.Numbers.{le_bytes}
 
 -- r is the first place from `at` on where s does not have the bytes of w; where it has them all, the end of w
 pub record FirstOther (s : List ℕ) (at : ℕ) (w : List ℕ) (r : ℕ) : Type 0 where
@@ -13,7 +12,3 @@ pub record FirstOther (s : List ℕ) (at : ℕ) (w : List ℕ) (r : ℕ) : Type 
 pub record ZerosTo (s : List ℕ) (at n r : ℕ) : Type 0 where
   pub high : r ≤ n
   pub zeros : (i : ℕ) → i < r → get_or s (at + i) 0 ≡ 0
-
--- the four bytes from `at` on are those of v
-pub record BytesOf (s : List ℕ) (at v : ℕ) : Type 0 where
-  pub same : (i : ℕ) → i < 4 → get_or s (at + i) 0 ≡ get_or (le_bytes 4 v) i 0

@@ -1,44 +1,18 @@
 -- What entries name, in ascending order: each premise as the code gives it.
-use Prim.Native.Nat.{ℕ, ◌+◌, ◌-◌, ◌≤◌, ◌<◌}
+use Prim.Native.Nat.{ℕ, ◌≤◌, ◌<◌}
 use mathlib.Core.Path.{◌≡◌, refl, sym}
 use mathlib.Core.List.{List, [], ◌∷◌, append-nil}
 use mathlib.Core.Bool.{Bool, true, false}
-use native.Mathlib.Omega.{arith}
 use borrow.Author.Tests.{lt-ltb, le-ltb}
 use Rattle.base.specs.Pick.{pick}
-use Rattle.base.specs.Rows.{rows}
 use Rattle.format.specs.Entries.{entry_at, grain_sectors}
 use Rattle.format.specs.Areas.{Area, area}
-use Rattle.blocks.specs.Blocks.{Passed}
 use Rattle.named.specs.Named.{entry_area, entry_areas, table_grains}
-use Rattle.named.proofs.Named.{no_area, zeros_name}
+use Rattle.named.proofs.Named.{no_area}
 use Rattle.ascent.specs.Ascend.{stretched, ascend, table_row}
 use Rattle.ascent.specs.declared.Stretch.{Stretch}
-use Rattle.ascent.proofs.Ascending.{ascend_append, ascend_none, ascend_one, rows_more}
-
--- ---- one entry
-module _ (s : List ℕ) (st : Stretch) (least : ℕ) (packed : Bool) (size t k e : ℕ) (eq : e ≡ entry_at s t k) where
-  pub nothing_named : e < least → st ≡ ascend st (entry_area s least packed size t k)
-  nothing_named h = rw (no_area s least packed size t k (rw eq at h)) (sym (ascend_none st))
-
-  pub one_named : (n : ℕ) (r : Stretch) → least ≤ e → n ≡ grain_sectors s packed size e → r ≡ stretched st (area e n)
-      → r ≡ ascend st (entry_area s least packed size t k)
-  unfolding entry_area pick
-  one_named n r h z g = rw (← eq, le-ltb e least h, ← z, ascend_one) g
-
--- ---- the loop over blocks: a turn passes over zeros, then takes the entries after them
-pub block_more : (s : List ℕ) (st reached next : Stretch) (least : ℕ) (packed : Bool) (size t n k from count : ℕ) → 1 ≤ least
-    → reached ≡ ascend st (rows k (entry_area s least packed size t)) → Passed s t k n from
-    → next ≡ ascend reached (rows count (λ i. entry_area s least packed size t (from + i)))
-    → next ≡ ascend st (rows (from + count) (entry_area s least packed size t))
-block_more s st reached next least packed size t n k from count one e p g =
-    rows_more st _ reached next from count _ refl past g
-  where
-    past : reached ≡ ascend st (rows from (entry_area s least packed size t))
-    past =
-        let q : from ≡ k + (from - k) = omega (arith, p.low) in
-        rw q (rows_more st _ reached reached k (from - k) [] (zeros_name s least packed size t k n from one p) e
-        (sym (ascend_none reached)))
+use Rattle.ascent.specs.Ascended.{ascend_append, ascend_none}
+use Rattle.ascent.proofs.Ascending.{ascend_one}
 
 -- ---- the grains of a directory entry, and its table
 none_either : (b : Bool) → pick {A = List Area} b [] [] ≡ []

@@ -1,7 +1,7 @@
 -- Areas in ascending order: what a stretch that did not fall tells of them, and lists put together.
 use Prim.Native.Nat.{ℕ, ◌+◌, ◌-◌, ◌≤◌, ◌<◌}
 use mathlib.Core.Path.{◌≡◌, refl, sym, ap, ◌∙◌}
-use mathlib.Core.List.{List, [], ◌∷◌, ◌++◌}
+use mathlib.Core.List.{List, [], ◌∷◌}
 use mathlib.Core.Bool.{true, false, true≢false}
 use mathlib.Core.Logic.{◌⊎◌, inl, inr, ⊎_elim}
 use native.Mathlib.Omega.{arith}
@@ -13,6 +13,7 @@ use Rattle.format.proofs.Areas.{holds_or, holds_in}
 use Rattle.format.proofs.Inside.{one_in}
 use Rattle.base.proofs.Rows.{rows_split, row_alone}
 use Rattle.ascent.specs.Ascend.{stretched, ascend, settled, span}
+use Rattle.ascent.specs.Ascended.{ascend_append}
 use Rattle.ascent.specs.declared.Stretch.{Stretch}
 
 -- ---- one area more
@@ -90,15 +91,6 @@ settled_over st r e over =
     (λ t q. absurd (true≢false (sym (ap (λ (o : Stretch). o.falls) q) ∙ over))) (λ f q. (q, f)) e
 
 -- ---- lists put together
-pub ascend_append : (l m : List Area) (st : Stretch) → ascend st (l ++ m) ≡ ascend (ascend st l) m
-unfolding ascend
-ascend_append [] m st = refl
-ascend_append (a ∷ l) m st = ascend_append l m (stretched st a)
-
-pub ascend_none : (st : Stretch) → ascend st [] ≡ st
-unfolding ascend
-ascend_none st = refl
-
 pub ascend_one : (st : Stretch) (a : Area) → ascend st (a ∷ []) ≡ stretched st a
 unfolding ascend
 ascend_one st a = refl

@@ -1,1 +1,2 @@
 pub mod Ascend
+pub mod Ascended

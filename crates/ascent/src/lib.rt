@@ -1,19 +1,22 @@
 // Whether what entries name stands in ascending order, in one pass over the entries.
 #![tactic(auto)]
 
-ghost use Rattle.std.specs.Prelude.{◌≡◌, false, ◌+◌, ◌*◌, ◌^◌, ◌≤◌, ◌<◌, min, length};
+ghost use mathlib.Core.Path.{sym};
+ghost use mathlib.Core.Bool.{true≢false};
+ghost use Rattle.std.specs.Prelude.{◌≡◌, refl, false, ◌+◌, ◌*◌, ◌^◌, ◌≤◌, ◌<◌, length};
 ghost use Rattle.base.specs.Rows.{rows};
 ghost use Rattle.format.specs.Geometry.{file_sectors};
 ghost use Rattle.format.specs.Entries.{entry_at};
 ghost use Rattle.format.specs.Areas.{area, runs_past};
 ghost use Rattle.named.specs.Named.{entry_area, entry_areas};
 ghost use Rattle.named.specs.Listed.{Listed, Grained};
+ghost use Rattle.ascent.specs.Ascended.{ascend_none, ascend_on};
 ghost use Rattle.ascent.specs.Ascend.{no_stretch, stretched, ascend, settled, span, table_row, table_rows};
 
-use blocks::{block_entries, past_zeros};
-use entries::{entry_at, file_sectors, grain_sectors};
-use named::least_sector;
+use entries::{entry_at, file_sectors};
+use named::{least_sector, take_entries};
 use sizes::entries_in_use;
+use window::Taker;
 
 // From the lowest start of some areas to the end of the last. It falls where one began before the end of the one before it.
 #[derive(Clone, Copy)]
@@ -27,16 +30,7 @@ pub struct Stretch {
 pub fn sectors_of(stretch: Stretch) -> u64
     ensures { result ≡ (span stretch).sector_count }
 {
-    if stretch.end <= stretch.first {
-        return 0;
-    }
-    stretch.end - stretch.first
-}
-
-fn lower(a: u64, b: u64) -> u64
-    ensures { result ≡ min a b }
-{
-    if a < b { a } else { b }
+    stretch.end.saturating_sub(stretch.first)
 }
 
 // The stretch with one area more. No branch: whether it falls is asked once a table.
@@ -45,78 +39,28 @@ fn with_area(stretch: Stretch, first: u64, sectors: u64) -> Stretch
     ensures { result ≡ stretched stretch (area first sectors) }
 {
     Stretch {
-        first: lower(stretch.first, first),
+        first: stretch.first.min(first),
         end: first + sectors,
         falls: stretch.falls | (first < stretch.end),
     }
 }
 
-// With what entry k of the directory or table at sector t names.
-fn ascend_entry(
-    stretch: Stretch,
-    image: &[u8],
-    least: u64,
-    packed: bool,
-    size: u64,
-    t: u64,
-    k: u64,
-) -> Stretch
-    requires k_in_bounds { (512 * t + 4 * k + 4 ≤ length image.now) × (1 ≤ size) }
-    requires k_value { runs_past (file_sectors image.now) (entry_area image.now least packed size t k) ≡ false }
-    ensures { result ≡ ascend stretch (entry_area image.now least packed size t k) }
-{
-    let e = entry_at(image, t, k);
-    if e < least {
-        return stretch;
-    }
-    with_area(stretch, e, grain_sectors(image, packed, size, e))
-}
+// It takes each area, and stops at none.
+impl Taker for Stretch {
+    ghost ready = { λ a. Unit {0} };
 
-// With what the `count` entries from `from` on name.
-fn ascend_run(
-    stretch: Stretch,
-    image: &[u8],
-    least: u64,
-    packed: bool,
-    size: u64,
-    t: u64,
-    from: u64,
-    count: u64,
-) -> Stretch
-    requires { Listed image.now least packed size t (from + count) }
-    ensures { result ≡ ascend stretch (rows count (λ i. entry_area image.now least packed size t (from + i))) }
-{
-    let mut reached = stretch;
-    let mut i: u64 = 0;
-    while i < count {
-        reached = ascend_entry(reached, image, least, packed, size, t, from + i);
-        i += 1;
-    }
-    reached
-}
+    ghost takes = { λ a l b r. (b ≡ ascend a l) × (r ≡ false) };
 
-// With what the first n entries name, a block at a time: blocks of zeros name nothing.
-fn ascend_entries(
-    stretch: Stretch,
-    image: &[u8],
-    least: u64,
-    packed: bool,
-    size: u64,
-    t: u64,
-    n: u64,
-) -> Stretch
-    requires { (1 ≤ least) × Listed image.now least packed size t n }
-    ensures { result ≡ ascend stretch (entry_areas image.now least packed size t n) }
-{
-    let mut reached = stretch;
-    let mut k: u64 = 0;
-    while k < n {
-        let from = past_zeros(image, t, k, n);
-        let count = block_entries(from, n);
-        reached = ascend_run(reached, image, least, packed, size, t, from, count);
-        k = from + count;
+    fn take(&mut self, first: u64, count: u64) -> bool {
+        *self = with_area(*self, first, count);
+        false
     }
-    reached
+
+    ghost none = { λ a. (sym (ascend_none a), refl) };
+
+    ghost more = { λ a b c l m r f g. (ascend_on l m a b c f.0 g.0, g.1) };
+
+    ghost stop = { λ a b l m f. absurd (true≢false f.1) };
 }
 
 // With the first n grains of directory entry d and then, where tables stand between grains, its table.
@@ -141,7 +85,8 @@ fn ascend_table(
     if t < least {
         return stretch;
     }
-    let reached = ascend_entries(stretch, image, least, packed, size, t, n);
+    let mut reached = stretch;
+    take_entries(&mut reached, image, least, packed, size, t, n);
     if between {
         return with_area(reached, t, sectors);
     }
@@ -171,10 +116,8 @@ pub fn ascend_grains(
         end: 0,
         falls: false,
     };
-    let mut d: u64 = 0;
-    let mut base: u64 = 0;
-    while base < all {
-        let n = entries_in_use(per_table, all - base);
+    for d in 0..base::ceil_div(all, per_table) {
+        let n = entries_in_use(per_table, all - d * per_table);
         reached = ascend_table(
             reached, image, least, packed, size, directory, d, n, between, sectors,
         );
@@ -185,8 +128,6 @@ pub fn ascend_grains(
                 falls: true,
             };
         }
-        d += 1;
-        base += per_table;
     }
     reached
 }

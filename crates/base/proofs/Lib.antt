@@ -6,5 +6,8 @@ pub mod Strings
 pub mod Over
 pub mod OverApart
 pub mod SameBytes
+pub mod SliceParts
 pub mod Rows
 pub mod SumsBelow
+pub mod GivenBack
+pub mod BoolNumber

@@ -3,10 +3,13 @@ use Prim.Native.Nat.{ℕ, zero, suc, ◌+◌, ◌*◌, ◌/◌, ◌%◌, ◌^◌
 use mathlib.Core.Path.{◌≡◌, refl, sym, ap, ◌∙◌}
 use mathlib.Core.List.{List, ◌++◌}
 use native.Mathlib.Omega.{arith}
-use native.Mathlib.Nat.{add-zero, zero-add, suc-add, add_assoc, one-mul, mul-add, mul_assoc, pow-zero, pow-suc, pow-succ'}
+use native.Mathlib.Nat.{add-zero, zero-add, suc-add, add_assoc, one-mul, mul-add, mul-zero, mul_comm}
+use native.Mathlib.Nat.{mul_assoc, pow-zero, pow-suc, pow-succ'}
 use native.Mathlib.Nat.{div-one, div-div-eq-div-mul, mod-one, mod-eq_of_lt, one-le-pow}
 use native.Mathlib.Numerals.{one-add, add-one}
 use lib.Arith.{mod-mul}
+use lib.Pow.{pow_mono}
+use Rattle.std.proofs.lemmas.Nat.{pow-add}
 use lib.Dec.{lit<}
 use lib.ListN.{length, get_or, take, drop}
 use lib.Seq.{drop-cons}
@@ -33,6 +36,17 @@ pub le_cut : (m n v : ℕ) → le_bytes m v ++ le_bytes n (v / 256 ^ m) ≡ le_b
 unfolding le_bytes
 le_cut zero n v = simp (pow-zero, div-one, zero-add)
 le_cut (suc m) n v = simp (suc-add, pow-succ', ← div-div-eq-div-mul v 256 (256 ^ m), le_cut m n (v / 256))
+
+-- m bytes are 8 * m bits
+bytes_wide : (m : ℕ) → 2 ^ (8 * m) ≡ 256 ^ m
+bytes_wide zero = refl
+bytes_wide (suc m) =
+    let e : 8 * suc m ≡ 8 + 8 * m = omega arith in rw (e, pow-add 2 8 (8 * m), bytes_wide m, pow-succ' 256 m)
+
+-- the first m + 1 bytes
+pub le_more : (s : List ℕ) (at m : ℕ) → le_at s at (m + 1) ≡ le_at s at m + get_or s (at + m) 0 * 256 ^ m
+unfolding le_at
+le_more s at m = rw (le_split s at m 1) (simp (add-zero, mul-zero, mul_comm))
 
 -- ---- what was written is read: of v as much as n bytes hold
 pub read_low : {s : List ℕ} {at : ℕ} (n v : ℕ) → Stands s at (le_bytes n v) → le_at s at n ≡ v % 256 ^ n
@@ -63,6 +77,23 @@ module _ (s : List ℕ) (bytes : (i : ℕ) → get_or s i 0 < 256) where
   unfolding le_at
   le_below at zero = rw pow-zero (lit< tt)
   le_below at (suc n) = rw pow-succ' (omega (arith, bytes at, le_below (at + 1) n))
+
+  le_fits : (at m : ℕ) → m ≤ 8 → le_at s at m < 2 ^ 64
+  le_fits at m h =
+      let wide : 8 * m ≤ 64 = omega arith in
+      let most : 256 ^ m ≤ 2 ^ 64 = rw (bytes_wide m) at (pow_mono wide) in
+      omega (arith, most, le_below at m)
+
+  -- the next byte b, shifted to its place, is added to the number of those before it
+  module _ (at m n b : ℕ) (e : n ≡ le_at s at m) (q : b ≡ get_or s (at + m) 0) (h : m < 8) where
+    pub byte_added : n + (b * 2 ^ (8 * m)) % 2 ^ 64 ≡ le_at s at (m + 1)
+    byte_added =
+        let part = le_more s at m in
+        let room : get_or s (at + m) 0 * 256 ^ m < 2 ^ 64 = omega (arith, part, le_fits at (m + 1) (omega arith)) in
+        rw (e, q, bytes_wide m, mod-eq_of_lt room) (sym part)
+
+    pub byte_fits : n + (b * 2 ^ (8 * m)) % 2 ^ 64 < 2 ^ 64
+    byte_fits = rw byte_added (le_fits at (m + 1) (omega arith))
 
   pub bytes_back : (at n : ℕ) → at + n ≤ length s → le_bytes n (le_at s at n) ≡ take n (drop at s)
   unfolding le_at le_bytes

@@ -47,6 +47,11 @@ over_lent xs ys ws at p =
           (ws ++ drop (0 + length ws) (drop at xs)),
     ) (simp (append_assoc, zero-add, drop-drop))
 
+-- a part was lent, and ws stands in it now
+pub over_part : (xs ws : List ℕ) (at k : ℕ) → length ws ≡ k → put_mid at k xs ws ≡ over xs at ws
+unfolding over
+over_part xs ws at k h = rw (← h) (simp (append_assoc, drop-drop))
+
 -- one part after another
 over_on : (d : List ℕ) (at : ℕ) (vs ws : List ℕ) → at ≤ length d → over (over d at vs) (at + length vs) ws
     ≡ over d at (vs ++ ws)
@@ -110,11 +115,6 @@ module _ (out₀ out : List ℕ) (at i : ℕ) where
   store_more vs v e l h =
       let w : Wrote out₀ at vs (at + i) out = record { is = e; ends = ap (λ (k : ℕ). at + k) l; room = omega arith } in
       last _ _ _ _ _ _ _ (over_set out (at + i) v (omega (arith, wrote_length w (omega arith)))) w
-
-  pub fill_more : (n : ℕ) → out ≡ over out₀ at (zeros i) → i < n → at + n ≤ length out₀ → set out (at + i) 0
-      ≡ over out₀ at (zeros (i + 1))
-  unfolding zeros
-  fill_more n e l h = store_more (zeros i) 0 e (zeros_length i) (omega arith) ∙ ap (over out₀ at) (zeros_add i 1)
 
   pub copy_more : (src : List ℕ) (n : ℕ) → out ≡ over out₀ at (take i src) → i < n → n ≤ length src → at + n ≤ length out₀
       → set out (at + i) (get_or src i 0) ≡ over out₀ at (take (i + 1) src)

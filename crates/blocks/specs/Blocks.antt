@@ -1,5 +1,5 @@
 -- Entries judged some at a time, from one on.
-use Rattle.std.specs.Prelude.{ℕ, ◌+◌, ◌≤◌, ◌<◌, ◌≡◌, List, Bool, not, eqb}
+use Rattle.std.specs.Prelude.{ℕ, ◌+◌, ◌-◌, ◌≤◌, ◌<◌, ◌≡◌, List, Bool, true, false, not, eqb}
 use Rattle.format.specs.Entries.{entry_at, any_below}
 
 -- a rule that is broken by one of the m numbers from k on
@@ -19,3 +19,10 @@ pub record Passed (s : List ℕ) (t k n r : ℕ) : Type 0 where
   pub low : k ≤ r
   pub high : r ≤ n
   pub zeros : (j : ℕ) → k ≤ j → j < r → entry_at s t j ≡ 0
+
+-- from number k up to r, at most n, none breaks a rule, and one of the sixteen from r on does where so many are left
+pub record PastBlocks (broken : ℕ → Bool) (k n r : ℕ) : Type 0 where
+  pub low : k ≤ r
+  pub high : r ≤ n
+  pub none : (j : ℕ) → k ≤ j → j < r → broken j ≡ false
+  pub stopped : 16 ≤ n - r → any_from broken r 16 ≡ true

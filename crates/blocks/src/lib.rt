@@ -1,9 +1,9 @@
 // Entries of tables sixteen at a time: whether two tables differ there, and blocks of zeros passed over.
 #![tactic(auto)]
 
-ghost use Rattle.std.specs.Prelude.{◌≡◌, ◌+◌, ◌-◌, ◌*◌, ◌≤◌, ◌<◌, min, length};
+ghost use Rattle.std.specs.Prelude.{◌≡◌, ℕ, Bool, ◌+◌, ◌-◌, ◌*◌, ◌^◌, ◌≤◌, ◌<◌, min, length};
 ghost use Rattle.format.specs.Entries.{entry_at};
-ghost use Rattle.blocks.specs.Blocks.{any_from, differs_at, named_at, Passed};
+ghost use Rattle.blocks.specs.Blocks.{any_from, differs_at, named_at, PastBlocks, Passed};
 
 use entries::entry_at;
 
@@ -16,6 +16,39 @@ fn pair_at(image: &[u8], t: u64, k: u64) -> u64
     entry_at(image, t, k) + 0x100000000 * entry_at(image, t, k + 1)
 }
 
+// Whether one of the sixteen numbers from k on breaks a rule, of which `pair` tells for two: all eight pairs are asked, so that
+// there is one answer for a block, and the loop over blocks has one test.
+fn any_pair<F: Fn(u64) -> bool>(k: u64, pair: F) -> bool
+    requires k_small { k < 2 ^ 63 }
+    requires callable { (i : ℕ) → i < 8 → F.pre pair (k + 2 * i) }
+    ensures { (broken : ℕ → Bool)
+        → ((i : ℕ) (r : Bool) → F.post pair (k + 2 * i) r → r ≡ any_from broken (k + 2 * i) 2)
+        → result ≡ any_from broken k 16 }
+{
+    let mut any = false;
+    for i in 0..8 {
+        any |= pair(k + 2 * i);
+    }
+    any
+}
+
+// Past the blocks of sixteen from number `from` on, before n, in which none breaks a rule: `block` tells for a block.
+pub fn past_blocks<F: Fn(u64) -> bool>(from: u64, n: u64, block: F) -> u64
+    requires from_le_n { from ≤ n }
+    requires callable { (k : ℕ) → k + 16 ≤ n → F.pre block k }
+    ensures { (broken : ℕ → Bool) → ((k : ℕ) (r : Bool) → F.post block k r → r ≡ any_from broken k 16)
+        → PastBlocks broken from n result }
+{
+    let blocks = (n - from) / 16;
+    for b in 0..blocks {
+        let k = from + 16 * b;
+        if block(k) {
+            return k;
+        }
+    }
+    from + 16 * blocks
+}
+
 // Whether one of two entries from k on differs in the tables at sectors t and u.
 pub fn pair_differs(image: &[u8], t: u64, u: u64, k: u64) -> bool
     requires { (512 * t + 4 * k + 8 ≤ length image.now) × (512 * u + 4 * k + 8 ≤ length image.now) }
@@ -24,19 +57,12 @@ pub fn pair_differs(image: &[u8], t: u64, u: u64, k: u64) -> bool
     !(pair_at(image, t, k) == pair_at(image, u, k))
 }
 
-// The same of sixteen: one answer for a block, so that the loop over blocks has one test.
+// The same of sixteen.
 pub fn block_differs(image: &[u8], t: u64, u: u64, k: u64) -> bool
     requires { (512 * t + 4 * k + 64 ≤ length image.now) × (512 * u + 4 * k + 64 ≤ length image.now) }
     ensures { result ≡ any_from (differs_at image.now t u) k 16 }
 {
-    pair_differs(image, t, u, k)
-        | pair_differs(image, t, u, k + 2)
-        | pair_differs(image, t, u, k + 4)
-        | pair_differs(image, t, u, k + 6)
-        | pair_differs(image, t, u, k + 8)
-        | pair_differs(image, t, u, k + 10)
-        | pair_differs(image, t, u, k + 12)
-        | pair_differs(image, t, u, k + 14)
+    any_pair(k, |j| pair_differs(image, t, u, j))
 }
 
 // Whether one of two entries from k on is not 0.
@@ -52,14 +78,7 @@ fn block_named(image: &[u8], t: u64, k: u64) -> bool
     requires { 512 * t + 4 * k + 64 ≤ length image.now }
     ensures { result ≡ any_from (named_at image.now t) k 16 }
 {
-    pair_named(image, t, k)
-        | pair_named(image, t, k + 2)
-        | pair_named(image, t, k + 4)
-        | pair_named(image, t, k + 6)
-        | pair_named(image, t, k + 8)
-        | pair_named(image, t, k + 10)
-        | pair_named(image, t, k + 12)
-        | pair_named(image, t, k + 14)
+    any_pair(k, |j| pair_named(image, t, j))
 }
 
 // Past the blocks of zeros that begin at entry `from`, before entry n.
@@ -67,14 +86,7 @@ pub fn past_zeros(image: &[u8], t: u64, from: u64, n: u64) -> u64
     requires { (from ≤ n) × (512 * t + 4 * n ≤ length image.now) }
     ensures { Passed image.now t from n result }
 {
-    let mut k = from;
-    while 16 <= n - k {
-        if block_named(image, t, k) {
-            return k;
-        }
-        k += 16;
-    }
-    k
+    past_blocks(from, n, |k| block_named(image, t, k))
 }
 
 // The entries of the block that begins at entry k, before entry n.
@@ -82,8 +94,5 @@ pub fn block_entries(k: u64, n: u64) -> u64
     requires { k ≤ n }
     ensures { result ≡ min 16 (n - k) }
 {
-    if 16 <= n - k {
-        return 16;
-    }
-    n - k
+    (n - k).min(16)
 }

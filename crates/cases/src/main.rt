@@ -17,38 +17,22 @@ use std::io::Read;
 fn ask(rt: &impl Print, what: u64, lengths: &[u8], bytes: &[u8], out: &mut [u8]) -> io::Result<()>
     requires { length lengths.now ≤ 136 }
 {
-    if what == 0 {
-        cases_images::image(rt, bytes)?;
-        return cases_written::normal(rt, bytes, &mut *out);
+    match what {
+        0 => {
+            cases_images::image(rt, bytes)?;
+            cases_written::normal(rt, bytes, &mut *out)
+        }
+        2 => cases_pairings::pairings(rt, bytes, lengths, &mut *out),
+        3 => cases_texts::text(rt, bytes),
+        6 => cases_lists::frame(rt, bytes, out.len()),
+        7 => cases_lists::survey(rt, bytes, lengths, out.len()),
+        9 => cases_lists::check_in(rt, bytes, out.len()),
+        10 => cases_lists::mend(rt, bytes, lengths, &mut *out),
+        11 => cases_images::moves(rt, bytes, &mut *out),
+        12 => cases_images::profile(rt, bytes),
+        13 => cases_written::close(rt, bytes, &mut *out),
+        _ => Ok(()),
     }
-    if what == 2 {
-        return cases_pairings::pairings(rt, bytes, lengths, &mut *out);
-    }
-    if what == 3 {
-        return cases_texts::text(rt, bytes);
-    }
-    if what == 6 {
-        return cases_lists::frame(rt, bytes, out.len());
-    }
-    if what == 7 {
-        return cases_lists::survey(rt, bytes, lengths, out.len());
-    }
-    if what == 9 {
-        return cases_lists::check_in(rt, bytes, out.len());
-    }
-    if what == 10 {
-        return cases_lists::mend(rt, bytes, lengths, &mut *out);
-    }
-    if what == 11 {
-        return cases_images::moves(rt, bytes, &mut *out);
-    }
-    if what == 12 {
-        return cases_images::profile(rt, bytes);
-    }
-    if what == 13 {
-        cases_written::close(rt, bytes, &mut *out)?;
-    }
-    Ok(())
 }
 
 // What is asked for one of its sectors.
@@ -61,22 +45,14 @@ fn ask_sector(
 ) -> io::Result<()>
     requires { length lengths.now ≤ 136 }
 {
-    if what == 1 {
-        return cases_images::look_down(rt, bytes, lengths, sector);
+    match what {
+        1 => cases_images::look_down(rt, bytes, lengths, sector),
+        3 => cases_texts::find_in_text(rt, bytes, sector),
+        4 => cases_texts::find(rt, bytes, sector),
+        8 => cases_disks::look(rt, bytes, lengths, sector),
+        14 => cases_images::steps(rt, bytes, sector),
+        _ => cases_images::look(rt, bytes, sector),
     }
-    if what == 3 {
-        return cases_texts::find_in_text(rt, bytes, sector);
-    }
-    if what == 4 {
-        return cases_texts::find(rt, bytes, sector);
-    }
-    if what == 8 {
-        return cases_disks::look(rt, bytes, lengths, sector);
-    }
-    if what == 14 {
-        return cases_images::steps(rt, bytes, sector);
-    }
-    cases_images::look(rt, bytes, sector)
 }
 
 fn ask_sectors(
@@ -88,11 +64,8 @@ fn ask_sectors(
 ) -> io::Result<()>
     requires { length lengths.now ≤ 136 }
 {
-    let n = sectors.len() / 8;
-    let mut i = 0;
-    while i < n {
-        ask_sector(rt, what, lengths, bytes, base::u64_at(sectors, 8 * i))?;
-        i += 1;
+    for sector in sectors.chunks_exact(8) {
+        ask_sector(rt, what, lengths, bytes, base::number_at::<8>(sector, 0))?;
     }
     Ok(())
 }
@@ -102,7 +75,7 @@ fn number_at(head: &[u8], k: usize, most: u64) -> usize
     requires { (40 ≤ length head.now) × (k < 5) }
     ensures { result ≤ most }
 {
-    let n = base::u64_at(head, 8 * k);
+    let n = base::number_at::<8>(head, 8 * k);
     if most < n {
         return 0;
     }
@@ -114,22 +87,20 @@ fn read_body<I: Read>(input: &mut I, head: &[u8], body: &mut [u8]) -> io::Result
     requires { (40 ≤ length head.now) × (295048 ≤ length body.old) }
 {
     let n = 8 * number_at(head, 1, 4096) + 8 * number_at(head, 2, 17) + number_at(head, 3, 262144);
-    programs::read_full(input, &mut body[0..n])?;
+    programs::read_full(input, &mut body[..n])?;
     Ok(())
 }
 
 fn run_case(rt: &impl Print, head: &[u8], body: &[u8], out: &mut [u8]) -> io::Result<()>
     requires { (40 ≤ length head.now) × (295048 ≤ length body.now) × (65536 ≤ length out.old) }
 {
-    let first = 8 * number_at(head, 1, 4096);
-    let second = first + 8 * number_at(head, 2, 17);
-    let end = second + number_at(head, 3, 262144);
+    let what = base::number_at::<8>(head, 0);
+    let (sectors, rest) = body.split_at(8 * number_at(head, 1, 4096));
+    let (lengths, rest) = rest.split_at(8 * number_at(head, 2, 17));
+    let bytes = &rest[..number_at(head, 3, 262144)];
     let room = number_at(head, 4, 65536);
-    let what = base::u64_at(head, 0);
-    let lengths = &body[first..second];
-    let bytes = &body[second..end];
-    ask(rt, what, lengths, bytes, &mut out[0..room])?;
-    ask_sectors(rt, what, lengths, bytes, &body[0..first])
+    ask(rt, what, lengths, bytes, &mut out[..room])?;
+    ask_sectors(rt, what, lengths, bytes, sectors)
 }
 
 // Whether there was a case.
@@ -154,15 +125,12 @@ fn next_case<I: Read>(
 // At most 65,536 cases, so that it ends.
 fn main(rt: HostRuntime) -> io::Result<()> {
     let mut input = rt.reader();
-    let mut head = [0u8; 40];
-    let mut body = [0u8; 295048];
-    let mut out = [0u8; 65536];
-    let mut left: u64 = 65536;
-    while 0 < left {
-        if next_case(&rt, &mut input, &mut head, &mut body, &mut out)? {
-            left -= 1;
-        } else {
-            return Ok(());
+    let mut head = [0; 40];
+    let mut body = [0; 295048];
+    let mut out = [0; 65536];
+    for _ in 0..65536 {
+        if !next_case(&rt, &mut input, &mut head, &mut body, &mut out)? {
+            break;
         }
     }
     Ok(())

@@ -6,40 +6,52 @@ ghost use Rattle.std.specs.Prelude.{◌+◌, ◌≤◌, length};
 use descriptor::{Described, Extent, Found, Parsed};
 use std::io;
 
+fn put_line(rt: &impl Print, call: &[u8], numbers: &[u64]) -> io::Result<()> {
+    programs::start(rt, call)?;
+    for n in numbers {
+        programs::put(rt, *n)?;
+    }
+    programs::end(rt)
+}
+
 // Number, place, extents, version, CID, parentCID, createType's place and length.
 fn put_described(rt: &impl Print, a: Described) -> io::Result<()> {
-    programs::start(rt, b"descriptor ")?;
-    programs::put(rt, a.number)?;
-    programs::put(rt, a.place)?;
-    programs::put(rt, a.extents)?;
-    programs::put(rt, a.version)?;
-    programs::put(rt, a.cid)?;
-    programs::put(rt, a.parent_cid)?;
-    programs::put(rt, a.type_at)?;
-    programs::put(rt, a.type_length)?;
-    programs::end(rt)
+    put_line(
+        rt,
+        b"descriptor ",
+        &[
+            a.number,
+            a.place,
+            a.extents,
+            a.version,
+            a.cid,
+            a.parent_cid,
+            a.type_at,
+            a.type_length,
+        ],
+    )
 }
 
 // First sector, sectors, access, kind, the name's place and length, offset.
 fn put_record(rt: &impl Print, e: Extent) -> io::Result<()> {
-    programs::start(rt, b"record ")?;
-    programs::put(rt, e.first)?;
-    programs::put(rt, e.sectors)?;
-    programs::put(rt, e.access)?;
-    programs::put(rt, e.kind)?;
-    programs::put(rt, e.name_at)?;
-    programs::put(rt, e.name_length)?;
-    programs::put(rt, e.offset)?;
-    programs::end(rt)
+    put_line(
+        rt,
+        b"record ",
+        &[
+            e.first,
+            e.sectors,
+            e.access,
+            e.kind,
+            e.name_at,
+            e.name_length,
+            e.offset,
+        ],
+    )
 }
 
 // Number, place, extent.
 fn put_found(rt: &impl Print, f: Found) -> io::Result<()> {
-    programs::start(rt, b"find ")?;
-    programs::put(rt, f.number)?;
-    programs::put(rt, f.place)?;
-    programs::put(rt, f.extent)?;
-    programs::end(rt)
+    put_line(rt, b"find ", &[f.number, f.place, f.extent])
 }
 
 // What a lent record holds before a call: it shows which were not stored to.
@@ -55,14 +67,10 @@ fn held() -> Extent {
     }
 }
 
-fn put_records(rt: &impl Print, p: Parsed) -> io::Result<()> {
-    let mut i = 0;
-    while i < 32 {
-        if p.count <= i {
-            return Ok(());
-        }
-        put_record(rt, p.records[i])?;
-        i += 1;
+// All records that are to be stored.
+fn put_records(rt: &impl Print, p: &Parsed) -> io::Result<()> {
+    for e in p.records.iter().take(p.count) {
+        put_record(rt, *e)?;
     }
     Ok(())
 }
@@ -71,26 +79,20 @@ fn record_at(bytes: &[u8], at: usize) -> Extent
     requires { at + 56 ≤ length bytes.now }
 {
     Extent {
-        first: base::u64_at(bytes, at),
-        sectors: base::u64_at(bytes, at + 8),
-        access: base::u64_at(bytes, at + 16),
-        kind: base::u64_at(bytes, at + 24),
-        name_at: base::u64_at(bytes, at + 32),
-        name_length: base::u64_at(bytes, at + 40),
-        offset: base::u64_at(bytes, at + 48),
+        first: base::number_at::<8>(bytes, at),
+        sectors: base::number_at::<8>(bytes, at + 8),
+        access: base::number_at::<8>(bytes, at + 16),
+        kind: base::number_at::<8>(bytes, at + 24),
+        name_at: base::number_at::<8>(bytes, at + 32),
+        name_length: base::number_at::<8>(bytes, at + 40),
+        offset: base::number_at::<8>(bytes, at + 48),
     }
 }
 
 fn records_of(bytes: &[u8]) -> [Extent; 32]
     requires { 1792 ≤ length bytes.now }
 {
-    let mut records = [held(); 32];
-    let mut i: usize = 0;
-    while i < 32 {
-        records[i] = record_at(bytes, 56 * i);
-        i += 1;
-    }
-    records
+    std::array::from_fn(|i| record_at(bytes, 56 * i))
 }
 
 // The search in a list of 32 records.
@@ -105,17 +107,18 @@ pub fn find(rt: &impl Print, bytes: &[u8], sector: u64) -> io::Result<()> {
 pub fn text(rt: &impl Print, text: &[u8]) -> io::Result<()> {
     let lent = lent::described(text, [held(); 4]);
     put_described(rt, lent.answer)?;
-    put_record(rt, lent.list[0])?;
-    put_record(rt, lent.list[1])?;
-    put_record(rt, lent.list[2])?;
-    put_record(rt, lent.list[3])?;
-    put_records(rt, text::parse(text))
+    for e in lent.list {
+        put_record(rt, e)?;
+    }
+    if let Ok(p) = text::parse(text) {
+        put_records(rt, &p)?;
+    }
+    Ok(())
 }
 
-// The search in a text's records, if there are any: those past the last have no sectors.
+// The search in a text's records, if it is not refused: those past the last have no sectors.
 pub fn find_in_text(rt: &impl Print, text: &[u8], sector: u64) -> io::Result<()> {
-    let p = text::parse(text);
-    if 0 < p.count {
+    if let Ok(p) = text::parse(text) {
         let records = p.records;
         put_found(rt, lent::found(records, sector))?;
     }

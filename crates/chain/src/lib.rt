@@ -1,7 +1,7 @@
 // The chain lookup: layers end to end in one lent slice, base first, and a lent list of their lengths.
 #![tactic(auto)]
 
-ghost use Rattle.std.specs.Prelude.{◌≡◌, ◌+◌, length};
+ghost use Rattle.std.specs.Prelude.{◌≡◌, ◌+◌, length, Ok, Some};
 ghost use Rattle.format.specs.Header.{header_of, judge};
 ghost use Rattle.format.specs.Entries.{any_below};
 ghost use Rattle.format.specs.Source.{sector_lookup};
@@ -9,18 +9,11 @@ ghost use Rattle.format.specs.Chain.{layer_at, headers_down, unlike, walk_down, 
 ghost use Rattle.lengths.specs.Laid.{Laid, Ends};
 ghost use Rattle.chain.specs.LayerSteps.{HeadedFrom, step_of};
 
-use format::{ChainAnswer, Header, HeaderAnswer, LayerSource, LookupAnswer, Refusal, Source};
+use format::{Header, LayerRefusal, LayerSource, Refusal, Source};
 use lengths::lengths_broken;
 
-// Whether the layer below is asked, or this is the answer.
-#[derive(Clone, Copy)]
-pub enum Step {
-    Below,
-    Answer(ChainAnswer),
-}
-
 // The header of layer k, which ends at byte `end` of the chain.
-fn judged_layer(layers: &[u8], lengths: &[u64], k: usize, end: usize) -> HeaderAnswer
+fn judged_layer(layers: &[u8], lengths: &[u64], k: usize, end: usize) -> Result<Header, Refusal>
     requires { Ends layers.now lengths.now (k + 1) end }
     ensures { result ≡ judge (layer_at layers.now lengths.now k) }
 {
@@ -29,7 +22,13 @@ fn judged_layer(layers: &[u8], lengths: &[u64], k: usize, end: usize) -> HeaderA
 }
 
 // The source of a sector in layer k: its slice begins in the middle of the chain.
-fn looked_layer(layers: &[u8], lengths: &[u64], k: usize, end: usize, sector: u64) -> LookupAnswer
+fn looked_layer(
+    layers: &[u8],
+    lengths: &[u64],
+    k: usize,
+    end: usize,
+    sector: u64,
+) -> Result<Source, Refusal>
     requires { Ends layers.now lengths.now (k + 1) end }
     ensures { result ≡ sector_lookup (layer_at layers.now lengths.now k) sector }
 {
@@ -38,21 +37,19 @@ fn looked_layer(layers: &[u8], lengths: &[u64], k: usize, end: usize, sector: u6
 }
 
 // Headers from the top down, then the walk.
-fn headers_down(layers: &[u8], lengths: &[u64], sector: u64) -> ChainAnswer
+fn headers_down(layers: &[u8], lengths: &[u64], sector: u64) -> Result<LayerSource, LayerRefusal>
     requires { Laid 16 layers.now lengths.now }
     ensures { result ≡ headers_down layers.now lengths.now (length lengths.now)
         (walk layers.now lengths.now sector) }
 {
     let mut end = layers.len();
-    let mut k = lengths.len();
-    while 0 < k {
-        k -= 1;
+    for k in (0..lengths.len()).rev() {
         let judged = judged_layer(layers, lengths, k, end);
-        if let HeaderAnswer::Refused(r) = judged {
-            return ChainAnswer::Refused {
+        if let Err(r) = judged {
+            return Err(LayerRefusal {
                 layer: k as u64,
                 refusal: r,
-            };
+            });
         }
         end -= lengths[k] as usize;
     }
@@ -66,8 +63,8 @@ fn unlike_layer(layers: &[u8], lengths: &[u64], k: usize, end: usize, first: Hea
 {
     let judged = judged_layer(layers, lengths, k, end);
     match judged {
-        HeaderAnswer::Known(h) => header::unlike(first, h),
-        HeaderAnswer::Refused(_) => true,
+        Ok(h) => header::unlike(first, h),
+        Err(_) => true,
     }
 }
 
@@ -78,9 +75,7 @@ fn some_unlike(layers: &[u8], lengths: &[u64], first: Header) -> bool
         (length lengths.now) }
 {
     let mut end = layers.len();
-    let mut k = lengths.len();
-    while 0 < k {
-        k -= 1;
+    for k in (0..lengths.len()).rev() {
         if unlike_layer(layers, lengths, k, end, first) {
             return true;
         }
@@ -89,20 +84,20 @@ fn some_unlike(layers: &[u8], lengths: &[u64], first: Header) -> bool
     false
 }
 
-fn served(layer: u64, source: Source) -> Step
-    ensures { result ≡ Step.Answer (ChainAnswer.Found (record { layer = layer; source = source })) }
+fn served(layer: u64, source: Source) -> Option<Result<LayerSource, LayerRefusal>>
+    ensures { result ≡ Some (Ok (record { layer = layer; source = source })) }
 {
-    Step::Answer(ChainAnswer::Found(LayerSource { layer, source }))
+    Some(Ok(LayerSource { layer, source }))
 }
 
 // What layer k says of a sector.
-fn step_of(k: u64, answer: LookupAnswer) -> Step
+fn step_of(k: u64, answer: Result<Source, Refusal>) -> Option<Result<LayerSource, LayerRefusal>>
     ensures { result ≡ step_of k answer }
 {
     match answer {
-        LookupAnswer::Refused(refusal) => Step::Answer(ChainAnswer::Refused { layer: k, refusal }),
-        LookupAnswer::Found(source) => match source {
-            Source::Absent => Step::Below,
+        Err(refusal) => Some(Err(LayerRefusal { layer: k, refusal })),
+        Ok(source) => match source {
+            Source::Absent => None,
             Source::Zero => served(k, Source::Zero),
             Source::Stored(sector) => served(k, Source::Stored(sector)),
             Source::Packed {
@@ -123,7 +118,13 @@ fn step_of(k: u64, answer: LookupAnswer) -> Step
     }
 }
 
-fn layer_step(layers: &[u8], lengths: &[u64], k: usize, end: usize, sector: u64) -> Step
+fn layer_step(
+    layers: &[u8],
+    lengths: &[u64],
+    k: usize,
+    end: usize,
+    sector: u64,
+) -> Option<Result<LayerSource, LayerRefusal>>
     requires { Ends layers.now lengths.now (k + 1) end }
     ensures { result ≡ step_of k (sector_lookup (layer_at layers.now lengths.now k) sector) }
 {
@@ -131,70 +132,73 @@ fn layer_step(layers: &[u8], lengths: &[u64], k: usize, end: usize, sector: u64)
 }
 
 // The topmost layer not absent for the sector, else layer 0 and absent.
-fn walk_down(layers: &[u8], lengths: &[u64], sector: u64) -> ChainAnswer
+fn walk_down(layers: &[u8], lengths: &[u64], sector: u64) -> Result<LayerSource, LayerRefusal>
     requires { Laid 16 layers.now lengths.now }
     ensures { result ≡ walk_down layers.now lengths.now sector (length lengths.now) }
 {
     let mut end = layers.len();
-    let mut k = lengths.len();
-    while 0 < k {
-        k -= 1;
+    for k in (0..lengths.len()).rev() {
         let step = layer_step(layers, lengths, k, end, sector);
-        if let Step::Answer(answer) = step {
+        if let Some(answer) = step {
             return answer;
         }
         end -= lengths[k] as usize;
     }
-    ChainAnswer::Found(LayerSource {
+    Ok(LayerSource {
         layer: 0,
         source: Source::Absent,
     })
 }
 
 // 22, 20, then the walk, where the first layer's header is known.
-fn walk_from(layers: &[u8], lengths: &[u64], sector: u64, first: Header) -> ChainAnswer
+fn walk_from(
+    layers: &[u8],
+    lengths: &[u64],
+    sector: u64,
+    first: Header,
+) -> Result<LayerSource, LayerRefusal>
     requires laid { Laid 16 layers.now lengths.now × HeadedFrom layers.now lengths.now 0 }
     requires first_value { first ≡ header_of (layer_at layers.now lengths.now 0) }
     ensures { result ≡ walk layers.now lengths.now sector }
 {
     if some_unlike(layers, lengths, first) {
-        return ChainAnswer::Refused {
+        return Err(LayerRefusal {
             layer: 0,
             refusal: Refusal::LayersDiffer,
-        };
+        });
     }
     if first.capacity <= sector {
-        return ChainAnswer::Refused {
+        return Err(LayerRefusal {
             layer: 0,
             refusal: Refusal::SectorPast,
-        };
+        });
     }
     walk_down(layers, lengths, sector)
 }
 
-fn walk(layers: &[u8], lengths: &[u64], sector: u64) -> ChainAnswer
+fn walk(layers: &[u8], lengths: &[u64], sector: u64) -> Result<LayerSource, LayerRefusal>
     requires { Laid 16 layers.now lengths.now × HeadedFrom layers.now lengths.now 0 }
     ensures { result ≡ walk layers.now lengths.now sector }
 {
     let judged = judged_layer(layers, lengths, 0, lengths[0] as usize);
     match judged {
-        HeaderAnswer::Known(first) => walk_from(layers, lengths, sector, first),
-        HeaderAnswer::Refused(r) => ChainAnswer::Refused {
+        Ok(first) => walk_from(layers, lengths, sector, first),
+        Err(r) => Err(LayerRefusal {
             layer: 0,
             refusal: r,
-        },
+        }),
     }
 }
 
 // The layer that has a sector, and its source there, or the first refusal: 24, the headers from the top down, 22, 20, the walk.
-pub fn chain(layers: &[u8], lengths: &[u64], sector: u64) -> ChainAnswer
+pub fn chain(layers: &[u8], lengths: &[u64], sector: u64) -> Result<LayerSource, LayerRefusal>
     ensures { result ≡ chain_lookup layers.now lengths.now sector }
 {
     if lengths_broken(16, layers, lengths) {
-        return ChainAnswer::Refused {
+        return Err(LayerRefusal {
             layer: 0,
             refusal: Refusal::LayerLengths,
-        };
+        });
     }
     headers_down(layers, lengths, sector)
 }

@@ -1,42 +1,27 @@
 -- Changes counted, each premise as the code gives it.
-use Prim.Native.Nat.{ℕ, ◌+◌, ◌-◌, ◌≤◌, ◌<◌}
+use Prim.Native.Nat.{ℕ, ◌+◌, ◌-◌, ◌≤◌}
 use mathlib.Core.Path.{◌≡◌, refl, sym, ◌∙◌}
 use mathlib.Core.List.{List}
-use mathlib.Core.Bool.{Bool, false}
-use mathlib.Core.Logic.{⊎_elim}
 use native.Mathlib.Omega.{arith}
 use native.Mathlib.Numerals.{add-one}
 use borrow.Author.Tests.{eqb-true, eq-eqb, ne_eqb}
 use Rattle.base.specs.Pick.{pick}
 use Rattle.base.specs.SumsBelow.{sum_below}
-use Rattle.base.proofs.Steps.{not_no, lt_or_ge}
+use Rattle.base.proofs.Steps.{not_no}
 use Rattle.base.proofs.SumsBelow.{sum_split, sum_none}
 use Rattle.format.specs.Entries.{entry_at}
-use Rattle.format.proofs.Entries.{some_no}
-use Rattle.blocks.specs.Blocks.{any_from, differs_at}
+use Rattle.blocks.specs.Blocks.{differs_at, PastBlocks}
 use Rattle.changes.specs.TableChanges.{AlikeUpTo, one_if_differs, differing}
 
--- ---- blocks that are alike
 module _ (s : List ℕ) (t u : ℕ) where
-  pub alike_start : (k n : ℕ) → k ≤ n → AlikeUpTo s t u k n k
-  alike_start k n h = record { low = omega arith; high = h; same = λ j a b. absurd (omega arith) }
-
-  module _ {r : Bool} (k : ℕ) (e : r ≡ any_from (differs_at s t u) k 16) (f : r ≡ false) where
-    block_alike : (i : ℕ) → i < 16 → entry_at s t (k + i) ≡ entry_at s u (k + i)
-    unfolding any_from
-    block_alike i l =
-        eqb-true (entry_at s t (k + i)) (entry_at s u (k + i))
-        (not_no _ (some_no (λ j. differs_at s t u (k + j)) 16 (sym e ∙ f) i l))
-
-    pub alike_more : (from n : ℕ) → AlikeUpTo s t u from n k → 16 ≤ n - k → AlikeUpTo s t u from n (k + 16)
-    alike_more from n p h =
-        record {
-          low = omega (arith, p.low);
-          high = omega (arith, p.high);
-          same = λ j a b. ⊎_elim (λ l. p.same j a l)
-              (λ g. let q : j ≡ k + (j - k) = omega arith in let l : j - k < 16 = omega arith in rw q (block_alike (j - k) l))
-              (lt_or_ge j k);
-        }
+  -- ---- blocks that are alike
+  pub past_same : (k n r : ℕ) → PastBlocks (differs_at s t u) k n r → AlikeUpTo s t u k n r
+  past_same k n r p =
+      record {
+        low = p.low;
+        high = p.high;
+        same = λ j a b. eqb-true (entry_at s t j) (entry_at s u j) (not_no _ (p.none j a b));
+      }
 
   -- ---- the entries of a block
   pub count_none : (k : ℕ) → differing s t u k + 0 ≡ differing s t u k

@@ -11,49 +11,34 @@ use Rattle.framing.specs.WordsPut.{WordsPut}
 use Rattle.framing.proofs.WordsLaws.{put_none}
 use Rattle.changes.specs.TableChanges.{differing_in, changes_in}
 
-pub data Unpaired : Entry → Entry → Type 0 where
-  absent : {b : Entry} → Unpaired Absent b
-  zero : {b : Entry} → Unpaired Zero b
-  table_absent : {t : ℕ} → Unpaired (Sector t) Absent
-  table_zero : {t : ℕ} → Unpaired (Sector t) Zero
-
--- ---- at an arm of a match
-module _ (a b : Entry) where
-  pub arm_absent : a ≡ Absent → Unpaired a b
-  arm_absent e = rw e absent
-
-  pub arm_zero : a ≡ Zero → Unpaired a b
-  arm_zero e = rw e zero
-
-  module _ (t : ℕ) (e : a ≡ Sector t) where
-    pub arm_other_absent : b ≡ Absent → Unpaired a b
-    arm_other_absent q = rw (e, q) table_absent
-
-    pub arm_other_zero : b ≡ Zero → Unpaired a b
-    arm_other_zero q = rw (e, q) table_zero
+abbrev pub Unpaired : Entry → Entry → Type 0
+Unpaired a b = (t u : ℕ) → a ≡ Sector t → b ≡ Sector u → ⊥
 
 -- ---- what it tells
-pub none_differs : (s : List ℕ) (n : ℕ) {a b : Entry} → Unpaired a b → (0 ≡ differing_in s n a b) × (0 ≤ n)
+pub none_differs : (s : List ℕ) (n : ℕ) (a b : Entry) → Unpaired a b → (0 ≡ differing_in s n a b) × (0 ≤ n)
 unfolding differing_in
-none_differs s n absent = (refl, omega arith)
-none_differs s n zero = (refl, omega arith)
-none_differs s n table_absent = (refl, omega arith)
-none_differs s n table_zero = (refl, omega arith)
+none_differs s n Absent b p = (refl, omega arith)
+none_differs s n Zero b p = (refl, omega arith)
+none_differs s n (Sector t) Absent p = (refl, omega arith)
+none_differs s n (Sector t) Zero p = (refl, omega arith)
+none_differs s n (Sector t) (Sector u) p = absurd (p t u refl refl)
 
-none_changes : (s : List ℕ) (first n : ℕ) {a b : Entry} → Unpaired a b → changes_in s first n a b ≡ []
+none_changes : (s : List ℕ) (first n : ℕ) (a b : Entry) → Unpaired a b → changes_in s first n a b ≡ []
 unfolding change_of
-none_changes s first n absent = rows_none n _ (λ k l. refl)
-none_changes s first n zero = rows_none n _ (λ k l. refl)
-none_changes s first n table_absent = rows_none n _ (λ k l. refl)
-none_changes s first n table_zero = rows_none n _ (λ k l. refl)
+none_changes s first n Absent b p = rows_none n _ (λ k l. refl)
+none_changes s first n Zero b p = rows_none n _ (λ k l. refl)
+none_changes s first n (Sector t) Absent p = rows_none n _ (λ k l. refl)
+none_changes s first n (Sector t) Zero p = rows_none n _ (λ k l. refl)
+none_changes s first n (Sector t) (Sector u) p = absurd (p t u refl refl)
 
-pub none_put : (s : List ℕ) (first n at : ℕ) (d : List ℕ) {a b : Entry} → Unpaired a b
+pub none_put : (s : List ℕ) (first n at : ℕ) (d : List ℕ) (a b : Entry) → Unpaired a b
     → WordsPut (changes_in s first n a b) d at d at
-none_put s first n at d p = rw (none_changes s first n p) (put_none d at)
+none_put s first n at d a b p = rw (none_changes s first n a b p) (put_none d at)
 
-pub none_written : (s : List ℕ) (n : ℕ) (m : List ℕ) {a b : Entry} → Unpaired a b → m ≡ over_table s n a b m
+pub none_written : (s : List ℕ) (n : ℕ) (m : List ℕ) (a b : Entry) → Unpaired a b → m ≡ over_table s n a b m
 unfolding over_table
-none_written s n m absent = refl
-none_written s n m zero = refl
-none_written s n m table_absent = refl
-none_written s n m table_zero = refl
+none_written s n m Absent b p = refl
+none_written s n m Zero b p = refl
+none_written s n m (Sector t) Absent p = refl
+none_written s n m (Sector t) Zero p = refl
+none_written s n m (Sector t) (Sector u) p = absurd (p t u refl refl)

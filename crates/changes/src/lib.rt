@@ -12,9 +12,10 @@ ghost use Rattle.framing.specs.WordsPut.{WordsPut};
 ghost use Rattle.changes.specs.TableChanges.{AlikeUpTo, one_if_differs, differing, differing_in, differing_at, differing_all};
 ghost use Rattle.changes.specs.TableChanges.{change_if, change_in, changes_in, changes_at};
 
-use blocks::{block_differs, block_entries};
+use blocks::{block_differs, block_entries, past_blocks};
 use entries::{entry_at, meaning_at};
 use format::{Entry, Header};
+use framing::put_words;
 use sizes::{directory_entries, entries_in_use, grains_of};
 
 // Past the blocks from entry `from` on, before entry n, in which the tables at sectors t and u are alike.
@@ -22,14 +23,7 @@ fn past_alike(image: &[u8], t: u64, u: u64, from: u64, n: u64) -> u64
     requires { (from ≤ n) × (512 * t + 4 * n ≤ length image.now) × (512 * u + 4 * n ≤ length image.now) }
     ensures { AlikeUpTo image.now t u from n result }
 {
-    let mut k = from;
-    while 16 <= n - k {
-        if block_differs(image, t, u, k) {
-            return k;
-        }
-        k += 16;
-    }
-    k
+    past_blocks(from, n, |k| block_differs(image, t, u, k))
 }
 
 fn one_if_differs(old: u64, new: u64) -> u64
@@ -48,10 +42,8 @@ fn count_block(image: &[u8], t: u64, u: u64, from: u64, end: u64) -> u64
     ensures { (differing image.now t u from + result ≡ differing image.now t u end) × (result ≤ end - from) }
 {
     let mut count: u64 = 0;
-    let mut k = from;
-    while k < end {
+    for k in from..end {
         count += one_if_differs(entry_at(image, u, k), entry_at(image, t, k));
-        k += 1;
     }
     count
 }
@@ -63,6 +55,7 @@ fn count_table(image: &[u8], t: u64, u: u64, n: u64) -> u64
 {
     let mut count: u64 = 0;
     let mut k: u64 = 0;
+    // Leaps over blocks that are alike, which no range does.
     while k < n {
         let from = past_alike(image, t, u, k, n);
         let end = from + block_entries(from, n);
@@ -79,15 +72,9 @@ fn count_named(image: &[u8], n: u64, good: Entry, other: Entry) -> u64
     requires by_index_2 { (u : ℕ) → other ≡ Sector u → 512 * u + 4 * n ≤ length image.now }
     ensures { (result ≡ differing_in image.now n good other) × (result ≤ n) }
 {
-    match good {
-        Entry::Absent => 0,
-        Entry::Zero => 0,
-        Entry::Sector(t) => match other {
-            Entry::Absent => 0,
-            Entry::Zero => 0,
-            Entry::Sector(u) => count_table(image, t, u, n),
-        },
-    }
+    let Entry::Sector(t) = good else { return 0 };
+    let Entry::Sector(u) = other else { return 0 };
+    count_table(image, t, u, n)
 }
 
 // The same of entry d of both directories, where the image has so many grains.
@@ -109,26 +96,13 @@ pub fn count_changes(image: &[u8], g: Header) -> u64
     let all = grains_of(g.capacity, g.grain_size);
     let n = directory_entries(g.capacity, g.entries_per_table, g.grain_size);
     let mut count: u64 = 0;
-    let mut d: u64 = 0;
-    while d < n {
+    for d in 0..n {
         count += count_at(image, g, all, d);
-        d += 1;
     }
     count
 }
 
-// The three words of a change, and where the next ones go.
-fn put_words(list: &mut [u64], at: usize, grain: u64, old: u64, new: u64) -> usize
-    requires { at + 3 ≤ length list.old }
-    ensures { WordsPut (grain ∷ old ∷ new ∷ []) list.old at list.new result }
-{
-    list[at] = grain;
-    list[at + 1] = old;
-    list[at + 2] = new;
-    at + 3
-}
-
-// The same where the two entries differ, else nothing.
+// The three words of a change, and where the next ones go. Where the two entries are the same, nothing.
 fn put_change(list: &mut [u64], at: usize, grain: u64, old: u64, new: u64) -> usize
     requires { at + length (change_if grain old new) ≤ length list.old }
     ensures { WordsPut (change_if grain old new) list.old at list.new result }
@@ -157,13 +131,11 @@ fn put_block(
         list.new result }
 {
     let mut next = at;
-    let mut j: u64 = 0;
-    while j < m {
+    for j in 0..m {
         let k = from + j;
         let old = entry_at(image, u, k);
         let new = entry_at(image, t, k);
         next = put_change(&mut *list, next, first + k, old, new);
-        j += 1;
     }
     next
 }
@@ -177,6 +149,7 @@ fn put_table(list: &mut [u64], at: usize, image: &[u8], first: u64, t: u64, u: u
 {
     let mut next = at;
     let mut k: u64 = 0;
+    // Leaps as above.
     while k < n {
         let from = past_alike(image, t, u, k, n);
         let m = block_entries(from, n);
@@ -202,15 +175,9 @@ fn put_named(
     requires other_in_bounds { at + length (changes_in image.now first n good other) ≤ length list.old }
     ensures { WordsPut (changes_in image.now first n good other) list.old at list.new result }
 {
-    match good {
-        Entry::Absent => at,
-        Entry::Zero => at,
-        Entry::Sector(t) => match other {
-            Entry::Absent => at,
-            Entry::Zero => at,
-            Entry::Sector(u) => put_table(&mut *list, at, image, first, t, u, n),
-        },
-    }
+    let Entry::Sector(t) = good else { return at };
+    let Entry::Sector(u) = other else { return at };
+    put_table(&mut *list, at, image, first, t, u, n)
 }
 
 // The same of entry d of both directories, where the image has so many grains.
@@ -234,9 +201,7 @@ pub fn put_changes(list: &mut [u64], image: &[u8], g: Header)
     let all = grains_of(g.capacity, g.grain_size);
     let n = directory_entries(g.capacity, g.entries_per_table, g.grain_size);
     let mut next = 0;
-    let mut d: u64 = 0;
-    while d < n {
+    for d in 0..n {
         next = put_at(&mut *list, next, image, g, all, d);
-        d += 1;
     }
 }

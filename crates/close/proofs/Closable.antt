@@ -15,16 +15,16 @@ use Rattle.format.specs.Stream.{overhead, kept_grains}
 use Rattle.format.specs.Check.{descriptor_misplaced}
 use Rattle.format.specs.Close.{no_stream, walk_misplaced, not_closable}
 use Rattle.format.specs.declared.Header.{Header}
-use Rattle.format.specs.declared.HeaderAnswer.TheVariants.{Known}
 use Rattle.format.proofs.Geometry.{directory_room}
 use Rattle.format.proofs.HeaderStart.{started, StartSizes, started_sizes}
 use Rattle.format.proofs.TailLengths.{tables_most}
 use Rattle.walk.specs.Walked.{Walkable, Tallied}
 use Rattle.walk.specs.declared.Counted.{Counted}
 use Rattle.tail.specs.TailPut.{Walking}
+use Rattle.std.specs.Prelude.{Ok}
 
 -- a header that is known has its sector 0
-pub known_long : (s : List ℕ) (h : Header) → judge_start s ≡ Known h → 512 ≤ length s
+pub known_long : (s : List ℕ) (h : Header) → judge_start s ≡ Ok h → 512 ≤ length s
 known_long s h e = (started s h e).long
 
 -- ---- a stream that can be walked
@@ -40,7 +40,7 @@ module _ (s : List ℕ) (h : Header) where
   entries_fit z =
       rw (z.room, z.table) (omega (arith, directory_room (directory_entries h.capacity 512 h.grain_size)))
 
-  pub walking_of : {b : Bool} → judge_start s ≡ Known h → b ≡ not_closable s h → b ≡ false
+  pub walking_of : {b : Bool} → judge_start s ≡ Ok h → b ≡ not_closable s h → b ≡ false
       → Walking s h × (directory_entries_of h * 4 ≤ 512 * h.directory_sectors)
   walking_of e c f =
       let a = or_no (no_stream h) _ (sym c ∙ f) in

@@ -1,16 +1,15 @@
 // Closing a download that broke off: the tail for what is kept of it, into lent output.
 #![tactic(auto)]
 
-ghost use Rattle.std.specs.Prelude.{◌≡◌, ◌||◌, ltb, ◌*◌, ◌≤◌, length};
+ghost use Rattle.std.specs.Prelude.{◌≡◌, ◌||◌, ltb, ◌*◌, ◌≤◌, length, Ok};
 ghost use Rattle.format.specs.Geometry.{file_sectors};
 ghost use Rattle.format.specs.Header.{directory_entries_of, judge_start};
 ghost use Rattle.format.specs.Close.{no_stream, not_closable, tail_of, close_from, close, close_output};
-ghost use Rattle.format.specs.declared.HeaderAnswer.TheVariants.{Known};
 ghost use Rattle.tail.specs.TailPut.{Walking};
 ghost use Rattle.close.specs.ClosedAs.{closed_if_room, ClosedAs};
 
-use format::closing::CloseAnswer;
-use format::{Header, HeaderAnswer, Refusal};
+use format::closing::Kept;
+use format::{Header, Refusal};
 use walk::overhead;
 
 // No start with directory at end, or one with a redundant directory.
@@ -38,7 +37,7 @@ fn not_closable(image: &[u8], h: Header) -> bool
 }
 
 // 21, or the tail written.
-fn write_closed(image: &[u8], h: Header, out: &mut [u8]) -> CloseAnswer
+fn write_closed(image: &[u8], h: Header, out: &mut [u8]) -> Result<Kept, Refusal>
     requires { Walking image.now h × (directory_entries_of h * 4 ≤ 512 * h.directory_sectors) }
     ensures { ClosedAs (closed_if_room image.now h (length out.old)) (tail_of image.now h)
         out.old result out.new }
@@ -46,36 +45,33 @@ fn write_closed(image: &[u8], h: Header, out: &mut [u8]) -> CloseAnswer
     let kept = walk::count(image, h);
     let long = 512 * (5 * kept.tables + h.directory_sectors + 4);
     if (out.len() as u64) < long {
-        return CloseAnswer::Refused(Refusal::TooLittleRoom);
+        return Err(Refusal::TooLittleRoom);
     }
     tail::write_tail(&mut *out, image, h, kept);
-    CloseAnswer::Closed {
+    Ok(Kept {
         sectors: kept.sectors,
         grains: kept.grains,
         length: long,
-    }
+    })
 }
 
 // Of a judged header: 41, 21.
-fn close_judged(image: &[u8], h: Header, out: &mut [u8]) -> CloseAnswer
-    requires { judge_start image.now ≡ Known h }
+fn close_judged(image: &[u8], h: Header, out: &mut [u8]) -> Result<Kept, Refusal>
+    requires { judge_start image.now ≡ Ok h }
     ensures { ClosedAs (close_from image.now h (length out.old)) (tail_of image.now h)
         out.old result out.new }
 {
     if not_closable(image, h) {
-        return CloseAnswer::Refused(Refusal::NotClosable);
+        return Err(Refusal::NotClosable);
     }
     write_closed(image, h, &mut *out)
 }
 
 // The tail that closes what is kept of a stream. Bytes past it, and all on a refusal, are kept.
-pub fn close(image: &[u8], out: &mut [u8]) -> CloseAnswer
+pub fn close(image: &[u8], out: &mut [u8]) -> Result<Kept, Refusal>
     ensures value { result ≡ close image.now (length out.old) }
     ensures out_after { out.new ≡ close_output image.now out.old }
 {
-    let judged = header::judge_start(image);
-    match judged {
-        HeaderAnswer::Refused(r) => CloseAnswer::Refused(r),
-        HeaderAnswer::Known(h) => close_judged(image, h, &mut *out),
-    }
+    let h = header::judge_start(image)?;
+    close_judged(image, h, &mut *out)
 }

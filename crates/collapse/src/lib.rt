@@ -1,7 +1,7 @@
 // Collapse of a lower and an upper image, and the normal form of one, into lent output.
 #![tactic(auto)]
 
-ghost use Rattle.std.specs.Prelude.{◌≡◌, ◌||◌, length};
+ghost use Rattle.std.specs.Prelude.{◌≡◌, ◌||◌, length, Err};
 ghost use Rattle.base.specs.Pick.{pick};
 ghost use Rattle.format.specs.Check.{check};
 ghost use Rattle.format.specs.Collapse.{collapsed, if_accepted, not_collapsible, still_open, written_if_room, normal};
@@ -9,12 +9,11 @@ ghost use Rattle.format.specs.Collapse.{normal_output};
 ghost use Rattle.format.specs.Collapse.{collapse_from, collapse, collapse_output};
 ghost use Rattle.format.specs.declared.Kind.TheVariants.{Kdmv};
 ghost use Rattle.format.specs.declared.Refusal.TheVariants.{StillOpen};
-ghost use Rattle.format.specs.declared.CollapseAnswer.TheVariants.{Refused};
 ghost use Rattle.layers.specs.TwoLayers.{layered, image_of, length_of, Layers};
 ghost use Rattle.accept.specs.AcceptedHeader.{Checked};
 ghost use Rattle.collapse.specs.Answered.{collapse_accepted, Answered};
 
-use format::{CollapseAnswer, Header, HeaderAnswer, Kind, Refusal};
+use format::{Header, Kind, Refusal};
 
 pub fn not_collapsible(h: Header) -> bool
     ensures { result ≡ not_collapsible h }
@@ -37,7 +36,7 @@ pub fn write_fitted(
     upper: &[u8],
     k: Header,
     out: &mut [u8],
-) -> CollapseAnswer
+) -> Result<u64, Refusal>
     requires { Layers lower.now h upper.now k }
     ensures { Answered (written_if_room (length out.old) (length_of kind lower.now h upper.now k))
         (image_of kind lower.now h upper.now k) out.old result out.new }
@@ -45,21 +44,27 @@ pub fn write_fitted(
     let sectors = writer::image_sectors(kind, lower, h, upper, k);
     let long = 512 * sectors;
     if (out.len() as u64) < long {
-        return CollapseAnswer::Refused(Refusal::TooLittleRoom);
+        return Err(Refusal::TooLittleRoom);
     }
     writer::write_image(&mut *out, kind, sectors, lower, h, upper, k);
-    CollapseAnswer::Written(long)
+    Ok(long)
 }
 
 // 27, then what the room allows.
-fn write_clean(lower: &[u8], h: Header, upper: &[u8], k: Header, out: &mut [u8]) -> CollapseAnswer
+fn write_clean(
+    lower: &[u8],
+    h: Header,
+    upper: &[u8],
+    k: Header,
+    out: &mut [u8],
+) -> Result<u64, Refusal>
     requires { Layers lower.now h upper.now k }
-    ensures { Answered (pick (still_open h || still_open k) (Refused StillOpen)
+    ensures { Answered (pick (still_open h || still_open k) (Err StillOpen)
         (written_if_room (length out.old) (length_of Kdmv lower.now h upper.now k)))
         (image_of Kdmv lower.now h upper.now k) out.old result out.new }
 {
     if still_open(h) | still_open(k) {
-        return CollapseAnswer::Refused(Refusal::StillOpen);
+        return Err(Refusal::StillOpen);
     }
     write_fitted(Kind::Kdmv, lower, h, upper, k, &mut *out)
 }
@@ -71,55 +76,46 @@ fn collapse_layers(
     upper: &[u8],
     k: Header,
     out: &mut [u8],
-) -> CollapseAnswer
+) -> Result<u64, Refusal>
     requires { Checked lower.now h × Checked upper.now k }
     ensures { Answered (collapse_from h k (layered lower.now h upper.now k) (length out.old))
         (image_of Kdmv lower.now h upper.now k) out.old result out.new }
 {
     if not_collapsible(h) | not_collapsible(k) {
-        return CollapseAnswer::Refused(Refusal::NotCollapsible);
+        return Err(Refusal::NotCollapsible);
     }
     if header::unlike(h, k) {
-        return CollapseAnswer::Refused(Refusal::LayersDiffer);
+        return Err(Refusal::LayersDiffer);
     }
     write_clean(lower, h, upper, k, &mut *out)
 }
 
 // Where the lower image is accepted: the upper's check, then the rest.
-fn collapse_onto(lower: &[u8], h: Header, upper: &[u8], out: &mut [u8]) -> CollapseAnswer
+fn collapse_onto(lower: &[u8], h: Header, upper: &[u8], out: &mut [u8]) -> Result<u64, Refusal>
     requires { Checked lower.now h }
     ensures { Answered (if_accepted (check upper.now)
         (collapse_accepted lower.now upper.now (length out.old)))
         (collapsed lower.now upper.now) out.old result out.new }
 {
-    let judged = accept::accepted(upper);
-    match judged {
-        HeaderAnswer::Refused(r) => CollapseAnswer::Refused(r),
-        HeaderAnswer::Known(k) => collapse_layers(lower, h, upper, k, &mut *out),
-    }
+    let k = accept::accepted(upper)?;
+    collapse_layers(lower, h, upper, k, &mut *out)
 }
 
 // The collapsed image of both: a grain is the upper's unless absent there. Bytes past the result, and all on a refusal, are
 // kept.
-pub fn collapse(lower: &[u8], upper: &[u8], out: &mut [u8]) -> CollapseAnswer
+pub fn collapse(lower: &[u8], upper: &[u8], out: &mut [u8]) -> Result<u64, Refusal>
     ensures value { result ≡ collapse lower.now upper.now (length out.old) }
     ensures out_after { out.new ≡ collapse_output lower.now upper.now out.old }
 {
-    let judged = accept::accepted(lower);
-    match judged {
-        HeaderAnswer::Refused(r) => CollapseAnswer::Refused(r),
-        HeaderAnswer::Known(h) => collapse_onto(lower, h, upper, &mut *out),
-    }
+    let h = accept::accepted(lower)?;
+    collapse_onto(lower, h, upper, &mut *out)
 }
 
 // The same from one image: collapsed onto itself, with one check.
-pub fn normal(image: &[u8], out: &mut [u8]) -> CollapseAnswer
+pub fn normal(image: &[u8], out: &mut [u8]) -> Result<u64, Refusal>
     ensures value { result ≡ normal image.now (length out.old) }
     ensures out_after { out.new ≡ normal_output image.now out.old }
 {
-    let judged = accept::accepted(image);
-    match judged {
-        HeaderAnswer::Refused(r) => CollapseAnswer::Refused(r),
-        HeaderAnswer::Known(h) => collapse_layers(image, h, image, h, &mut *out),
-    }
+    let h = accept::accepted(image)?;
+    collapse_layers(image, h, image, h, &mut *out)
 }

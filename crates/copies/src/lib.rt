@@ -7,7 +7,7 @@ ghost use Rattle.format.specs.Check.{tables_differ, copy_differs, copies_differ}
 ghost use Rattle.format.specs.declared.Entry.TheVariants.{Sector};
 ghost use Rattle.format.specs.Judged.{Placed};
 
-use blocks::{block_differs, pair_differs};
+use blocks::{block_differs, pair_differs, past_blocks};
 use entries::{entry_at, meaning_at};
 use format::{Entry, Header};
 use sizes::{directory_entries, entries_in_use, grains_of};
@@ -20,32 +20,15 @@ fn differ_at(image: &[u8], t: u64, u: u64, k: u64) -> bool
     !(entry_at(image, t, k) == entry_at(image, u, k))
 }
 
-// What is left of two tables that do not differ below entry k, of n: the last entry, where their number is odd.
-fn last_differs(image: &[u8], t: u64, u: u64, k: u64, n: u64) -> bool
-    requires n_in_bounds { (512 * t + 4 * n ≤ length image.now) × (512 * u + 4 * n ≤ length image.now) }
-    requires k_le_n { (k ≤ n) × (n ≤ k + 1) × (tables_differ image.now t u k ≡ false) }
-    ensures { result ≡ tables_differ image.now t u n }
-{
-    if k < n {
-        return differ_at(image, t, u, k);
-    }
-    false
-}
-
-// The same where less than a block is left: two entries at a time, then the last one.
+// The same where less than a block is left: two entries at a time, then the last one, where their number is odd.
 fn rest_differs(image: &[u8], t: u64, u: u64, from: u64, n: u64) -> bool
     requires n_in_bounds { (512 * t + 4 * n ≤ length image.now) × (512 * u + 4 * n ≤ length image.now) }
     requires from_le_n { (from ≤ n) × (tables_differ image.now t u from ≡ false) }
     ensures { result ≡ tables_differ image.now t u n }
 {
-    let mut k = from;
-    while 2 <= n - k {
-        if pair_differs(image, t, u, k) {
-            return true;
-        }
-        k += 2;
-    }
-    last_differs(image, t, u, k, n)
+    let pairs = (n - from) / 2;
+    (0..pairs).any(|i| pair_differs(image, t, u, from + 2 * i))
+        || ((n - from) % 2 == 1 && differ_at(image, t, u, n - 1))
 }
 
 // Whether the tables at sectors t and u differ in one of their first n entries: zeros are compared like all others.
@@ -53,14 +36,8 @@ fn tables_differ(image: &[u8], t: u64, u: u64, n: u64) -> bool
     requires { (512 * t + 4 * n ≤ length image.now) × (512 * u + 4 * n ≤ length image.now) }
     ensures { result ≡ tables_differ image.now t u n }
 {
-    let mut k: u64 = 0;
-    while 16 <= n - k {
-        if block_differs(image, t, u, k) {
-            return true;
-        }
-        k += 16;
-    }
-    rest_differs(image, t, u, k, n)
+    let k = past_blocks(0, n, |k| block_differs(image, t, u, k));
+    16 <= n - k || rest_differs(image, t, u, k, n)
 }
 
 // Two directory entries: absent and zero stand where they stand in the other, and tables are equal in the n entries in use.
@@ -69,22 +46,10 @@ fn copy_differs(image: &[u8], n: u64, entry: Entry, copy: Entry) -> bool
     requires by_index_2 { (u : ℕ) → copy ≡ Sector u → 512 * u + 4 * n ≤ length image.now }
     ensures { result ≡ copy_differs image.now n entry copy }
 {
-    match entry {
-        Entry::Absent => match copy {
-            Entry::Absent => false,
-            Entry::Zero => true,
-            Entry::Sector(_) => true,
-        },
-        Entry::Zero => match copy {
-            Entry::Absent => true,
-            Entry::Zero => false,
-            Entry::Sector(_) => true,
-        },
-        Entry::Sector(t) => match copy {
-            Entry::Absent => true,
-            Entry::Zero => true,
-            Entry::Sector(u) => tables_differ(image, t, u, n),
-        },
+    match (entry, copy) {
+        (Entry::Absent, Entry::Absent) | (Entry::Zero, Entry::Zero) => false,
+        (Entry::Sector(t), Entry::Sector(u)) => tables_differ(image, t, u, n),
+        _ => true,
     }
 }
 
@@ -120,14 +85,7 @@ fn directories_differ(image: &[u8], h: Header, grains: u64, n: u64) -> bool
         (meaning_at image.now h.one_is_zero h.directory d)
         (meaning_at image.now h.one_is_zero h.redundant d)) n }
 {
-    let mut d: u64 = 0;
-    while d < n {
-        if entry_differs(image, h, grains, d) {
-            return true;
-        }
-        d += 1;
-    }
-    false
+    (0..n).any(|d| entry_differs(image, h, grains, d))
 }
 
 // All of 11: where there is no redundant directory, nothing is compared.

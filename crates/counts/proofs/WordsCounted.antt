@@ -9,7 +9,7 @@ use lib.Pow.{shr-shr}
 use lib.Count.{ones, ones_step}
 use Rattle.base.specs.Bytes.{over, zeros}
 use Rattle.base.specs.SumsBelow.{sum_below}
-use Rattle.base.proofs.Over.{over_whole, fill_more, zeros_length}
+use Rattle.base.proofs.Over.{over_whole, store_more, zeros_add, zeros_length}
 use Rattle.base.proofs.OverApart.{over_past}
 use Rattle.base.proofs.SumsBelow.{sum_same, sum_split, sum_most}
 use Rattle.marks.specs.Marks.{bit, marked}
@@ -47,7 +47,9 @@ module _ (ws : List ℕ) (i : ℕ) where
 -- ---- words of which the first i are cleared
 module _ (ws₀ ws : List ℕ) (i : ℕ) (e : ws ≡ over ws₀ 0 (zeros i)) where
   pub cleared_more : i < length ws₀ → set ws i 0 ≡ over ws₀ 0 (zeros (i + 1))
-  cleared_more h = rw zero-add at (fill_more ws₀ ws 0 i (length ws₀) e h (omega arith))
+  unfolding zeros
+  cleared_more h =
+      rw zero-add at (store_more ws₀ ws 0 i (zeros i) 0 e (zeros_length i) (omega arith)) ∙ ap (over ws₀ 0) (zeros_add i 1)
 
   -- the next one is as it was
   next_kept : i < length ws₀ → get_or ws i 0 ≡ get_or ws₀ i 0

@@ -11,19 +11,14 @@ ghost use Rattle.counts.specs.MarkedCount.{Emptied};
 pub fn clear(words: &mut [u64])
     ensures { words.new ≡ zeros (length words.old) }
 {
-    let count = words.len();
-    let mut i = 0;
-    while i < count {
-        words[i] = 0;
-        i += 1;
-    }
+    words.fill(0);
 }
 
 // How many sectors of a word are marked.
 fn marked_in(word: u64) -> u64
     ensures { result ≡ sum_below (bit word) 64 }
 {
-    u64::count_ones(word) as u64
+    u64::from(word.count_ones())
 }
 
 // Counts the sectors that are marked, and sets all words to 0: one pass.
@@ -31,13 +26,10 @@ pub fn empty(words: &mut [u64]) -> u64
     requires { 64 * length words.old < 2 ^ 64 }
     ensures { Emptied words.old words.new result }
 {
-    let count = words.len();
-    let mut total: u64 = 0;
-    let mut i: usize = 0;
-    while i < count {
-        total += marked_in(words[i]);
-        words[i] = 0;
-        i += 1;
+    let mut total = 0;
+    for w in words.iter_mut() {
+        total += marked_in(*w);
+        *w = 0;
     }
     total
 }

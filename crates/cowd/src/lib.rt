@@ -7,7 +7,7 @@ ghost use Rattle.format.specs.Cowd.{cowd_fields, cowd_version_broken, cowd_sizes
 ghost use Rattle.format.specs.Header.{cowd_header, kind_gone, judge_cowd};
 ghost use Rattle.format.specs.Judged.{Sized};
 
-use format::{CowdFields, Fault, Header, HeaderAnswer, Refusal, Taken};
+use format::{CowdFields, Header, Refusal, Taken};
 use sizes::{capacity_broken, directory_entries, directory_sectors, grain_size_broken};
 
 // Four bytes, of which any may be the one that is not 0.
@@ -15,7 +15,7 @@ fn dirty(image: &[u8]) -> u64
     requires { 2048 ≤ length image.now }
     ensures { result ≡ le_at image.now 1648 4 }
 {
-    base::u32_at(image, 1648)
+    base::number_at::<4>(image, 1648)
 }
 
 fn fields(image: &[u8]) -> CowdFields
@@ -23,11 +23,11 @@ fn fields(image: &[u8]) -> CowdFields
     ensures { (result ≡ cowd_fields image.now) × (result.directory_entries < 0x100000000) }
 {
     CowdFields {
-        version: base::u32_at(image, 4),
-        capacity: base::u32_at(image, 12),
-        grain_size: base::u32_at(image, 16),
-        directory: base::u32_at(image, 20),
-        directory_entries: base::u32_at(image, 24),
+        version: base::number_at::<4>(image, 4),
+        capacity: base::number_at::<4>(image, 12),
+        grain_size: base::number_at::<4>(image, 16),
+        directory: base::number_at::<4>(image, 20),
+        directory_entries: base::number_at::<4>(image, 24),
         dirty: dirty(image),
     }
 }
@@ -52,19 +52,19 @@ fn count_broken(k: CowdFields) -> bool
 }
 
 // The first of 3 and 6 that is broken.
-fn fault(k: CowdFields) -> Fault
+fn fault(k: CowdFields) -> Result<(), Refusal>
     ensures { result ≡ cowd_fault k }
 {
     if version_broken(k) {
-        return Fault::Found(Refusal::Version);
+        return Err(Refusal::Version);
     }
     if sizes_broken(k) {
-        return Fault::Found(Refusal::Sizes);
+        return Err(Refusal::Sizes);
     }
     if count_broken(k) {
-        return Fault::Found(Refusal::Sizes);
+        return Err(Refusal::Sizes);
     }
-    Fault::None
+    Ok(())
 }
 
 fn header(k: CowdFields) -> Header
@@ -100,19 +100,16 @@ fn kind_gone(taken: Taken) -> bool
     }
 }
 
-pub fn judge(taken: Taken, image: &[u8]) -> HeaderAnswer
+pub fn judge(taken: Taken, image: &[u8]) -> Result<Header, Refusal>
     ensures { result ≡ judge_cowd taken image.now }
 {
     if image.len() < 2048 {
-        return HeaderAnswer::Refused(Refusal::TooShort);
+        return Err(Refusal::TooShort);
     }
     if kind_gone(taken) {
-        return HeaderAnswer::Refused(Refusal::KindGone);
+        return Err(Refusal::KindGone);
     }
     let k = fields(image);
-    let found = fault(k);
-    match found {
-        Fault::Found(r) => HeaderAnswer::Refused(r),
-        Fault::None => HeaderAnswer::Known(header(k)),
-    }
+    fault(k)?;
+    Ok(header(k))
 }

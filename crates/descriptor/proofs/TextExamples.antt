@@ -13,11 +13,11 @@ use Rattle.descriptor.specs.Text.{lines_from}
 use Rattle.descriptor.specs.Extents.{access_of, type_of, blanks_then_decimal_at, blanks_then_decimal, offset_of, extent}
 use Rattle.descriptor.specs.Extents.{with_name}
 use Rattle.descriptor.specs.Extents.{from_name, with_type, with_sectors}
-use Rattle.descriptor.specs.Keys.{key_of, version_is, cid_is, create_type_is, value_of, with_key, split_at}
+use Rattle.descriptor.specs.Keys.{key_of, version_is, create_type_is, value_of, with_key, split_at}
 use Rattle.descriptor.specs.Line.{line_with}
-use Rattle.descriptor.specs.Descriptor.{refused, skipped, opened, added, noted, once, judged_line, step, judged_end, ended}
-use Rattle.descriptor.specs.Descriptor.{judged, judged_text, read_text}
-use Rattle.descriptor.specs.Records.{accepted, handed, answered, descriptor_answer, descriptor_list, found_from, find_answer}
+use Rattle.descriptor.specs.Descriptor.{skipped, opened, added, noted, once, judged_line, step, judged_end, ended}
+use Rattle.descriptor.specs.Descriptor.{judged, judged_text, needed, accepted, read_text}
+use Rattle.descriptor.specs.Records.{answered, descriptor_answer, descriptor_list, found_from, find_answer}
 
 -- ---- texts
 -- lines, each ended by 0a
@@ -150,5 +150,5 @@ examples =
 
 -- the definitions say of each what is wanted
 pub examples_hold : Hold examples
-unfolding pick same_word count_before kept digit_value numeral_from numeral to_quote_at quoted_length lines_from access_of type_of blanks_then_decimal_at blanks_then_decimal offset_of extent with_name from_name with_type with_sectors key_of version_is cid_is create_type_is value_of with_key split_at line_with refused skipped opened added noted once judged_line step judged_end ended judged judged_text read_text accepted handed answered found_from
+unfolding pick same_word count_before kept digit_value numeral_from numeral to_quote_at quoted_length lines_from access_of type_of blanks_then_decimal_at offset_of from_name with_type with_sectors key_of version_is create_type_is value_of with_key split_at line_with skipped opened added noted once judged_line step judged_end ended judged read_text answered found_from
 examples_hold = refl

@@ -1,5 +1,6 @@
 pub mod Words
 pub mod Text
+pub mod Said
 pub mod Extents
 pub mod Keys
 pub mod Line

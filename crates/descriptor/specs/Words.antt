@@ -1,5 +1,6 @@
 -- What a line is made of: bytes, words, numbers, quoted parts. A line and what is left of it are lists of bytes.
 use Rattle.std.specs.Prelude.{ℕ, zero, suc, ◌+◌, ◌-◌, ◌*◌, List, [], ◌∷◌, Bool, not, ◌||◌, ltb, eqb, length, get_or, take, drop}
+use Rattle.std.specs.Prelude.{Option, None, Some, option_and_then}
 use Rattle.base.specs.Pick.{pick}
 use Rattle.descriptor.specs.declared.Stop.{Stop}
 use Rattle.descriptor.specs.declared.Stop.TheVariants.{Byte, NotByte, Blank, NotBlank, NotTrimmed}
@@ -85,53 +86,49 @@ abbrev pub after_word : List ℕ → List ℕ
 after_word w = rest NotBlank (rest Blank w)
 
 -- ---- numbers
--- no value: no such number, no closing quote, a key that did not come. It is above all that 10 decimal or 8 hex digits can
--- make, and above all places and lengths
-abbrev pub no_value : ℕ
-no_value = 0x10000000000
-
--- what a digit is worth, 0 to 9 and a to f of either case; 255 for any other byte
-unfoldable pub digit_value : ℕ → ℕ
+-- what a digit is worth, 0 to 9 and a to f of either case; nothing for any other byte
+unfoldable pub digit_value : ℕ → Option ℕ
 digit_value x =
-    pick (ltb x 0x30) 255
-    (pick (ltb x 0x3a) (x - 0x30)
-    (pick (ltb x 0x41) 255 (pick (ltb x 0x47) (x - 0x37) (pick (ltb x 0x61) 255 (pick (ltb x 0x67) (x - 0x57) 255)))))
+    pick (ltb x 0x30) None
+    (pick (ltb x 0x3a) (Some (x - 0x30))
+    (pick (ltb x 0x41) None
+    (pick (ltb x 0x47) (Some (x - 0x37)) (pick (ltb x 0x61) None (pick (ltb x 0x67) (Some (x - 0x57)) None)))))
 
--- the number that digits of a base make, read on from n; no value if a byte is no digit of the base
-unfoldable pub numeral_from : ℕ → ℕ → List ℕ → ℕ
-numeral_from base n [] = n
-numeral_from base n (x ∷ w) = pick (ltb (digit_value x) base) (numeral_from base (base * n + digit_value x) w) no_value
+-- the number that digits of a base make, read on from n; none if a byte is no digit of the base
+unfoldable pub numeral_from : ℕ → ℕ → List ℕ → Option ℕ
+numeral_from base n [] = Some n
+numeral_from base n (x ∷ w) =
+    option_and_then (λ d. pick (ltb d base) (numeral_from base (base * n + d) w) None) (digit_value x)
 
--- 1 to `most` digits of a base and nothing else; no value if w is no such number
-unfoldable pub numeral : ℕ → ℕ → List ℕ → ℕ
-numeral base most w = pick (empty w) no_value (pick (ltb most (length w)) no_value (numeral_from base 0 w))
+-- 1 to `most` digits of a base and nothing else; none if w is no such number
+unfoldable pub numeral : ℕ → ℕ → List ℕ → Option ℕ
+numeral base most w = pick (empty w) None (pick (ltb most (length w)) None (numeral_from base 0 w))
 
 -- decimals have 1 to 10 digits
-abbrev pub decimal_value : List ℕ → ℕ
+abbrev pub decimal_value : List ℕ → Option ℕ
 decimal_value w = numeral 10 10 w
 
 -- 1 to 8 hex digits
-abbrev pub hex : List ℕ → ℕ
+abbrev pub hex : List ℕ → Option ℕ
 hex w = numeral 16 8 w
 
 -- ---- quoted parts
--- n of `long` bytes stand before the next quote; no value if n is all of them, since then there is no quote
-unfoldable pub to_quote_at : ℕ → ℕ → ℕ
-to_quote_at n long = pick (eqb n long) no_value n
+-- n of `long` bytes stand before the next quote; none if n is all of them, since then there is no quote
+unfoldable pub to_quote_at : ℕ → ℕ → Option ℕ
+to_quote_at n long = pick (eqb n long) None (Some n)
 
 -- how many bytes stand before the closing quote, the next one: so a quoted part has no quote inside
-abbrev pub to_quote : List ℕ → ℕ
+abbrev pub to_quote : List ℕ → Option ℕ
 to_quote w = to_quote_at (count_before (Byte quote) w) (length w)
 
--- the length of the quoted part that w begins with, its quotes not counted; no value if w, empty or not, begins with no such
--- part
-unfoldable pub quoted_length : List ℕ → ℕ
-quoted_length w = pick (empty w) no_value (pick (begins quote w) (to_quote (drop 1 w)) no_value)
+-- the length of the quoted part that w begins with, its quotes not counted; none if w, empty or not, begins with no such part
+unfoldable pub quoted_length : List ℕ → Option ℕ
+quoted_length w = pick (empty w) None (pick (begins quote w) (to_quote (drop 1 w)) None)
 
 -- its place is that of the byte after the opening quote: w is the end of a line, which ends at `end`
 abbrev pub quoted_place : ℕ → List ℕ → ℕ
 quoted_place end w = end - length w + 1
 
--- what stands after its closing quote
-abbrev pub after_quoted : List ℕ → List ℕ
-after_quoted w = drop (quoted_length w + 2) w
+-- what stands after the closing quote of a quoted part of n bytes
+abbrev pub after_quoted : ℕ → List ℕ → List ℕ
+after_quoted n w = drop (n + 2) w

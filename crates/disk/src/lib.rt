@@ -1,12 +1,11 @@
 // A disk cut into several files, told by a descriptor: where a virtual sector comes from.
 #![tactic(auto)]
 
-use format::{LayerSource, Refusal};
+use format::Refusal;
 
-// The extent, from 0, stands where a chain's answer has the layer.
+// Why the lookup in such a disk refuses. An extent is its number, from 0.
 #[derive(Clone, Copy)]
-pub enum SplitAnswer {
-    Found(LayerSource),
+pub enum SplitRefusal {
     // The descriptor is refused: number and place.
     Unread(u64, u64),
     // Of the whole disk: the list of lengths, and a sector past the last extent.

@@ -19,11 +19,7 @@ pub fn file_sectors(image: &[u8]) -> u64
 pub fn before_end(image: &[u8], n: u64) -> u64
     ensures { result ≡ file_sectors image.now - n }
 {
-    let sectors = file_sectors(image);
-    if sectors <= n {
-        return 0;
-    }
-    sectors - n
+    file_sectors(image).saturating_sub(n)
 }
 
 // Entry k of the directory or table that starts at sector t.
@@ -31,20 +27,18 @@ pub fn entry_at(image: &[u8], t: u64, k: u64) -> u64
     requires { 512 * t + 4 * k + 4 ≤ length image.now }
     ensures { (result ≡ entry_at image.now t k) × (result < 0x100000000) }
 {
-    base::u32_at(image, (512 * t + 4 * k) as usize)
+    base::number_at::<4>(image, (512 * t + 4 * k) as usize)
 }
 
 // What an entry means.
 pub fn meaning_of(one_is_zero: bool, e: u64) -> Entry
     ensures { result ≡ meaning one_is_zero e }
 {
-    if e == 0 {
-        return Entry::Absent;
+    match e {
+        0 => Entry::Absent,
+        1 if one_is_zero => Entry::Zero,
+        _ => Entry::Sector(e),
     }
-    if one_is_zero & (e == 1) {
-        return Entry::Zero;
-    }
-    Entry::Sector(e)
 }
 
 pub fn meaning_at(image: &[u8], one_is_zero: bool, t: u64, k: u64) -> Entry
@@ -58,7 +52,7 @@ pub fn meaning_at(image: &[u8], one_is_zero: bool, t: u64, k: u64) -> Entry
 pub fn directory_misplaced(image: &[u8], h: Header) -> bool
     ensures { result ≡ directory_misplaced (file_sectors image.now) h }
 {
-    (h.directory == 0) | base::ends_past(h.directory, h.directory_sectors, file_sectors(image))
+    h.directory == 0 || base::ends_past(h.directory, h.directory_sectors, file_sectors(image))
 }
 
 // Whether a table of so many sectors at sector t runs past F.
@@ -73,7 +67,7 @@ pub fn marker_size(image: &[u8], e: u64) -> u64
     requires { 512 * e + 12 ≤ length image.now }
     ensures { (result ≡ marker_size image.now e) × (result < 0x100000000) }
 {
-    base::u32_at(image, (512 * e + 8) as usize)
+    base::number_at::<4>(image, (512 * e + 8) as usize)
 }
 
 // The sectors of the grain at sector e: its marker is read only if it is packed.
@@ -82,9 +76,10 @@ pub fn grain_sectors(image: &[u8], packed: bool, size: u64, e: u64) -> u64
     ensures { result ≡ grain_sectors image.now packed size e }
 {
     if packed {
-        return base::ceil_div(12 + marker_size(image, e), 512);
+        base::ceil_div(12 + marker_size(image, e), 512)
+    } else {
+        size
     }
-    size
 }
 
 // Whether the grain at sector e runs past F. A marker past F is not read.
@@ -93,10 +88,7 @@ pub fn grain_past(image: &[u8], packed: bool, size: u64, e: u64) -> bool
     ensures { result ≡ ltb (file_sectors image.now) (e + grain_sectors image.now packed size e) }
 {
     let f = file_sectors(image);
-    if f <= e {
-        return true;
-    }
-    base::ends_past(e, grain_sectors(image, packed, size, e), f)
+    f <= e || base::ends_past(e, grain_sectors(image, packed, size, e), f)
 }
 
 // A marker whose size is 0, or whose first number is not that of grain g.
@@ -104,7 +96,7 @@ pub fn marker_broken(image: &[u8], size: u64, g: u64, e: u64) -> bool
     requires { (512 * e + 12 ≤ length image.now) × (g ≤ 0x80000000) × (size ≤ 2048) }
     ensures { result ≡ marker_broken image.now size g e }
 {
-    (marker_size(image, e) == 0) | !(base::u64_at(image, (512 * e) as usize) == g * size)
+    marker_size(image, e) == 0 || base::number_at::<8>(image, (512 * e) as usize) != g * size
 }
 
 // Of a grain that is not packed no byte is read: it may lie anywhere on a disk.
@@ -112,8 +104,5 @@ pub fn bad_marker(image: &[u8], packed: bool, size: u64, g: u64, e: u64) -> bool
     requires { (512 * e + 12 ≤ length image.now) × (g ≤ 0x80000000) × (size ≤ 2048) }
     ensures { result ≡ (packed && marker_broken image.now size g e) }
 {
-    if packed {
-        return marker_broken(image, size, g, e);
-    }
-    false
+    packed && marker_broken(image, size, g, e)
 }

@@ -19,12 +19,12 @@ use Rattle.format.specs.Check.{misplaced, lowest_from, copies_differ, unless_gra
 use Rattle.format.specs.Check.{check_layout, check_from, check_of, check}
 use Rattle.format.specs.Accepted.{AcceptedKdmv, Accepted}
 use Rattle.format.specs.declared.Taken.TheVariants.{Either}
-use Rattle.format.specs.declared.CheckAnswer.TheVariants.{Accepted as accepted}
 use Rattle.examples.specs.Images.{cowd_sectors, small}
 use Rattle.laws.proofs.AcceptedImage.{accepted_sound, either_sound}
+use Rattle.format.specs.AnswerParts.{accepted_as}
 
 -- capacity 16, grain size 8, grain 0 stored at sector 8
-kdmv_check : check (small 8 0 0 10) ≡ accepted 16 8
+kdmv_check : check (small 8 0 0 10) ≡ accepted_as 16 8
 unfolding pick power_up_to le_at le_bytes same_at zeros rows grains directory_entries directory_sectors kdmv_fields kdmv_fault kdmv_header directory_of unless_fault with_footer judge_kdmv judge_of meaning in_table entry_of_grain grain_sectors any_below if_there named redundant_tables areas runs_past shares shares_any meet misplaced lowest_from copies_differ unless_grain check_apart check_copies check_grains check_layout check_from
 kdmv_check = refl
 
@@ -35,7 +35,7 @@ kdmv_accepted = (accepted_sound (small 8 0 0 10) 16 8 kdmv_check).0
 abbrev pub cowd_small : List ℕ
 cowd_small = cowd_sectors 1 1 4 1 ++ zeros 512
 
-cowd_check : check_of Either cowd_small ≡ accepted 1 1
+cowd_check : check_of Either cowd_small ≡ accepted_as 1 1
 unfolding pick power_up_to le_at le_bytes same_at zeros rows grains directory_entries directory_sectors cowd_fields cowd_fault cowd_header unless_fault kind_gone judge_cowd judge_of meaning in_table entry_of_grain grain_sectors any_below if_there named redundant_tables areas runs_past shares shares_any meet misplaced lowest_from copies_differ unless_grain check_apart check_copies check_grains check_layout check_from
 cowd_check = refl
 

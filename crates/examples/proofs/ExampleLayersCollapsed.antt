@@ -19,7 +19,6 @@ use Rattle.format.specs.Layout.{table_bytes, gap_bytes, grain_bytes, sectors_lai
 use Rattle.format.specs.Collapse.{map_of, normal_form, collapsed, written_if_room, collapse, output, collapse_output}
 use Rattle.format.specs.declared.Kind.TheVariants.{Kdmv}
 use Rattle.format.specs.declared.Refusal.TheVariants.{TooLittleRoom}
-use Rattle.format.specs.declared.CollapseAnswer.TheVariants.{Written, Refused}
 use Rattle.format.proofs.Picked.{pick_then, pick_else}
 use Rattle.format.proofs.Grains.{onto_self}
 use Rattle.laws.proofs.CollapsedMaps.{layout_same}
@@ -30,6 +29,7 @@ use Rattle.examples.proofs.ExampleLayersMaps.{lower_map, upper_map}
 use Rattle.examples.specs.ExampleLayers.{filled, lower, upper, cut, listed, lower_grains, upper_grains, header_sector}
 use Rattle.examples.specs.ExampleLayers.{directory_sector, collapsed_table, normal_table, gap_sectors, image, collapsed_grains}
 use Rattle.examples.specs.ExampleLayers.{normal_grains}
+use Rattle.std.specs.Prelude.{Ok, Err}
 
 -- ---- they are what is written
 header_is : (sectors : ℕ) → header_bytes Kdmv 69 8 sectors ≡ header_sector
@@ -91,17 +91,17 @@ answer room = layers_collapse layers.0 layers.1 room ∙ ap (written_if_room roo
 
 module _ (out : List ℕ) where
   -- where there is room the answer is the length, and the output's bytes past these keep what they held
-  pub collapse_writes : 20480 ≤ length out → (collapse lower upper (length out) ≡ Written 20480)
+  pub collapse_writes : 20480 ≤ length out → (collapse lower upper (length out) ≡ Ok 20480)
       × (collapse_output lower upper out ≡ image collapsed_table collapsed_grains ++ drop 20480 out)
   unfolding over output written_if_room
   collapse_writes h =
-      let e : collapse lower upper (length out) ≡ Written 20480 = answer _ ∙ pick_else _ _ _ (le-ltb _ _ h) in
+      let e : collapse lower upper (length out) ≡ Ok 20480 = answer _ ∙ pick_else _ _ _ (le-ltb _ _ h) in
       (e, rw (e, collapsed_long, collapsed_bytes))
 
   -- one byte short, or more, it is 21, and nothing changes
-  pub collapse_refuses : length out < 20480 → (collapse lower upper (length out) ≡ Refused TooLittleRoom)
+  pub collapse_refuses : length out < 20480 → (collapse lower upper (length out) ≡ Err TooLittleRoom)
       × (collapse_output lower upper out ≡ out)
   unfolding output written_if_room
   collapse_refuses h =
-      let e : collapse lower upper (length out) ≡ Refused TooLittleRoom = answer _ ∙ pick_then _ _ _ (lt-ltb _ _ h) in
+      let e : collapse lower upper (length out) ≡ Err TooLittleRoom = answer _ ∙ pick_then _ _ _ (lt-ltb _ _ h) in
       (e, rw e)

@@ -11,25 +11,22 @@ use Rattle.format.specs.declared.Refusal.TheVariants.{TooShort, Magic, Version, 
 use Rattle.format.specs.declared.Refusal.TheVariants.{GrainPast, Marker, CopiesDiffer, SharedSector, SectorPast}
 use Rattle.format.specs.declared.Refusal.TheVariants.{TooLittleRoom, LayersDiffer, NotCollapsible, LayerLengths, StillOpen}
 use Rattle.format.specs.declared.Source.TheVariants.{Absent, Zero, Stored, Packed}
-use Rattle.format.specs.declared.HeaderAnswer.{HeaderAnswer}
-use Rattle.format.specs.declared.HeaderAnswer.TheVariants.{Known, Refused as unknown}
-use Rattle.format.specs.declared.CheckAnswer.{CheckAnswer}
-use Rattle.format.specs.declared.CheckAnswer.TheVariants.{Accepted, Refused as unaccepted}
-use Rattle.format.specs.declared.LookupAnswer.TheVariants.{Found, Refused as not_found}
-use Rattle.format.specs.declared.ChainAnswer.TheVariants.{Found as found_in, Refused as not_found_in}
-use Rattle.format.specs.declared.CollapseAnswer.{CollapseAnswer}
-use Rattle.format.specs.declared.CollapseAnswer.TheVariants.{Written as written_to, Refused as not_written}
 use Rattle.format.specs.declared.numbers.Located.{Located}
 use Rattle.examples.specs.Examples.{Example, example, Hold}
 use Rattle.examples.specs.Images.{plain_header, open_header}
+use Rattle.std.specs.Prelude.{Result, Ok, Err}
+use Rattle.format.specs.declared.Header.{Header}
+use Rattle.format.specs.declared.Shape.{Shape}
+use Rattle.format.specs.AnswerParts.{accepted_as}
+use Rattle.format.specs.AnswerParts.{refused_at}
 
 -- ---- an answer's values in the order of the C face
-abbrev headed : HeaderAnswer → List ℕ
+abbrev headed : Result Header Refusal → List ℕ
 headed a =
     let v = header_numbers a in
     v.number ∷ v.place ∷ v.capacity ∷ v.grain_size ∷ v.descriptor ∷ v.descriptor_sectors ∷ v.dirty ∷ []
 
-abbrev checked : CheckAnswer → List ℕ
+abbrev checked : Result Shape Refusal → List ℕ
 checked a = let v = verdict a in v.number ∷ v.place ∷ v.capacity ∷ v.grain_size ∷ []
 
 abbrev marked_with : MarkedAnswer → List ℕ
@@ -39,7 +36,7 @@ marked_with a =
 abbrev served : Located → List ℕ
 served v = v.number ∷ v.layer ∷ v.place ∷ v.kind ∷ v.sector ∷ v.size ∷ v.offset ∷ []
 
-abbrev wrote : CollapseAnswer → List ℕ
+abbrev wrote : Result ℕ Refusal → List ℕ
 wrote a = let v = written a in v.number ∷ v.place ∷ v.length ∷ []
 
 -- ---- refusals
@@ -76,29 +73,29 @@ answers =
     ∷ example (map place refusals)
     (0 ∷ 0 ∷ 0 ∷ 0 ∷ 0 ∷ 0 ∷ 0 ∷ 1 ∷ 2 ∷ 3 ∷ 4 ∷ 5 ∷ 31 ∷ 32 ∷ 0 ∷ 0 ∷ 0 ∷ 0 ∷ 0 ∷ 0 ∷ 0 ∷ 0 ∷ [])
     -- a header: capacity, grain size, the descriptor's sector and sectors, dirty
-    ∷ example (headed (Known (plain_header 19 7 1 0))) (0 ∷ 0 ∷ 16 ∷ 8 ∷ 19 ∷ 7 ∷ 0 ∷ [])
-    ∷ example (headed (Known (open_header 32 8 5))) (0 ∷ 0 ∷ 32 ∷ 8 ∷ 0 ∷ 0 ∷ 5 ∷ [])
-    ∷ example (headed (unknown Footer)) (7 ∷ 0 ∷ 0 ∷ 0 ∷ 0 ∷ 0 ∷ 0 ∷ [])
+    ∷ example (headed (Ok (plain_header 19 7 1 0))) (0 ∷ 0 ∷ 16 ∷ 8 ∷ 19 ∷ 7 ∷ 0 ∷ [])
+    ∷ example (headed (Ok (open_header 32 8 5))) (0 ∷ 0 ∷ 32 ∷ 8 ∷ 0 ∷ 0 ∷ 5 ∷ [])
+    ∷ example (headed (Err Footer)) (7 ∷ 0 ∷ 0 ∷ 0 ∷ 0 ∷ 0 ∷ 0 ∷ [])
     -- the check: capacity, grain size
-    ∷ example (checked (Accepted 200 128)) (0 ∷ 0 ∷ 200 ∷ 128 ∷ [])
-    ∷ example (checked (unaccepted (GrainPast 3))) (9 ∷ 3 ∷ 0 ∷ 0 ∷ [])
+    ∷ example (checked (accepted_as 200 128)) (0 ∷ 0 ∷ 200 ∷ 128 ∷ [])
+    ∷ example (checked (Err (GrainPast 3))) (9 ∷ 3 ∷ 0 ∷ 0 ∷ [])
     -- in a lent list: with the sectors marked, also on 12
-    ∷ example (marked_with (record { checked = Accepted 200 128; marked = 9 })) (0 ∷ 0 ∷ 200 ∷ 128 ∷ 9 ∷ [])
-    ∷ example (marked_with (record { checked = unaccepted SharedSector; marked = 7 })) (12 ∷ 0 ∷ 0 ∷ 0 ∷ 7 ∷ [])
-    ∷ example (marked_with (record { checked = unaccepted (GrainPast 3); marked = 0 })) (9 ∷ 3 ∷ 0 ∷ 0 ∷ 0 ∷ [])
+    ∷ example (marked_with (record { checked = accepted_as 200 128; marked = 9 })) (0 ∷ 0 ∷ 200 ∷ 128 ∷ 9 ∷ [])
+    ∷ example (marked_with (record { checked = Err SharedSector; marked = 7 })) (12 ∷ 0 ∷ 0 ∷ 0 ∷ 7 ∷ [])
+    ∷ example (marked_with (record { checked = Err (GrainPast 3); marked = 0 })) (9 ∷ 3 ∷ 0 ∷ 0 ∷ 0 ∷ [])
     -- a lookup: layer 0, place, kind, sector, size, offset
-    ∷ example (served (located (Found Absent))) (0 ∷ 0 ∷ 0 ∷ 0 ∷ 0 ∷ 0 ∷ 0 ∷ [])
-    ∷ example (served (located (Found Zero))) (0 ∷ 0 ∷ 0 ∷ 1 ∷ 0 ∷ 0 ∷ 0 ∷ [])
-    ∷ example (served (located (Found (Stored 130)))) (0 ∷ 0 ∷ 0 ∷ 2 ∷ 130 ∷ 0 ∷ 0 ∷ [])
-    ∷ example (served (located (Found (Packed 6 500 7)))) (0 ∷ 0 ∷ 0 ∷ 3 ∷ 6 ∷ 500 ∷ 7 ∷ [])
-    ∷ example (served (located (not_found (Marker 5)))) (10 ∷ 0 ∷ 5 ∷ 0 ∷ 0 ∷ 0 ∷ 0 ∷ [])
+    ∷ example (served (located (Ok Absent))) (0 ∷ 0 ∷ 0 ∷ 0 ∷ 0 ∷ 0 ∷ 0 ∷ [])
+    ∷ example (served (located (Ok Zero))) (0 ∷ 0 ∷ 0 ∷ 1 ∷ 0 ∷ 0 ∷ 0 ∷ [])
+    ∷ example (served (located (Ok (Stored 130)))) (0 ∷ 0 ∷ 0 ∷ 2 ∷ 130 ∷ 0 ∷ 0 ∷ [])
+    ∷ example (served (located (Ok (Packed 6 500 7)))) (0 ∷ 0 ∷ 0 ∷ 3 ∷ 6 ∷ 500 ∷ 7 ∷ [])
+    ∷ example (served (located (Err (Marker 5)))) (10 ∷ 0 ∷ 5 ∷ 0 ∷ 0 ∷ 0 ∷ 0 ∷ [])
     -- a chain: the same with its layer
-    ∷ example (served (chained (found_in (record { layer = 3; source = Stored 130 })))) (0 ∷ 3 ∷ 0 ∷ 2 ∷ 130 ∷ 0 ∷ 0 ∷ [])
-    ∷ example (served (chained (not_found_in 3 (Marker 5)))) (10 ∷ 3 ∷ 5 ∷ 0 ∷ 0 ∷ 0 ∷ 0 ∷ [])
+    ∷ example (served (chained (Ok (record { layer = 3; source = Stored 130 })))) (0 ∷ 3 ∷ 0 ∷ 2 ∷ 130 ∷ 0 ∷ 0 ∷ [])
+    ∷ example (served (chained (refused_at 3 (Marker 5)))) (10 ∷ 3 ∷ 5 ∷ 0 ∷ 0 ∷ 0 ∷ 0 ∷ [])
     -- collapse and normal form: the result's length
-    ∷ example (wrote (written_to 8192)) (0 ∷ 0 ∷ 8192 ∷ [])
-    ∷ example (wrote (not_written TooLittleRoom)) (21 ∷ 0 ∷ 0 ∷ [])
-    ∷ example (wrote (not_written (Marker 5))) (10 ∷ 5 ∷ 0 ∷ [])
+    ∷ example (wrote (Ok 8192)) (0 ∷ 0 ∷ 8192 ∷ [])
+    ∷ example (wrote (Err TooLittleRoom)) (21 ∷ 0 ∷ 0 ∷ [])
+    ∷ example (wrote (Err (Marker 5))) (10 ∷ 5 ∷ 0 ∷ [])
     ∷ []
 
 pub answers_hold : Hold answers

@@ -19,47 +19,48 @@ use Rattle.format.specs.declared.Source.TheVariants.{Absent, Zero, Stored, Packe
 use Rattle.format.specs.declared.MisplacedPart.TheVariants.{Directory}
 use Rattle.format.specs.declared.Refusal.TheVariants.{TooShort, Magic, Misplaced, GrainPast, SectorPast, LayersDiffer}
 use Rattle.format.specs.declared.Refusal.TheVariants.{LayerLengths}
-use Rattle.format.specs.declared.LookupAnswer.TheVariants.{Found as found_in, Refused as lookup_refused}
-use Rattle.format.specs.declared.ChainAnswer.{ChainAnswer}
-use Rattle.format.specs.declared.ChainAnswer.TheVariants.{Found, Refused}
 use Rattle.examples.specs.Examples.{Example, example, Hold}
 use Rattle.examples.specs.Images.{joined, kdmv_sector}
+use Rattle.std.specs.Prelude.{Result, Ok, Err}
+use Rattle.format.specs.declared.LayerSource.{LayerSource}
+use Rattle.format.specs.declared.LayerRefusal.{LayerRefusal}
+use Rattle.format.specs.AnswerParts.{refused_at}
 
 -- capacity 8, grain size 8, a directory at sector 1 with one entry: 1,024 bytes
 abbrev layer : ℕ → List ℕ
 layer entry = joined (kdmv_sector 8 8 1 ∷ le_bytes 4 entry ∷ zeros 508 ∷ [])
 
 -- two of them, base first
-abbrev two : ℕ → ℕ → ℕ → ChainAnswer
+abbrev two : ℕ → ℕ → ℕ → Result LayerSource LayerRefusal
 two lower upper x = chain_lookup (joined (layer lower ∷ layer upper ∷ [])) (1024 ∷ 1024 ∷ []) x
 
 -- headers alone, of 512 bytes each: a chain of two
-abbrev heads : List ℕ → List ℕ → ℕ → ChainAnswer
+abbrev heads : List ℕ → List ℕ → ℕ → Result LayerSource LayerRefusal
 heads lower upper x = chain_lookup (joined (lower ∷ upper ∷ [])) (512 ∷ 512 ∷ []) x
 
 -- a source in a layer
-abbrev found : ℕ → Source → ChainAnswer
-found k source = Found (record { layer = k; source = source })
+abbrev found : ℕ → Source → Result LayerSource LayerRefusal
+found k source = Ok (record { layer = k; source = source })
 
-abbrev chains : List (Example ChainAnswer)
+abbrev chains : List (Example (Result LayerSource LayerRefusal))
 chains =
     -- 24: 1 to 16 lengths, whose sum is the slice's length
-    example (chain_lookup [] [] 0) (Refused 0 LayerLengths)
-    ∷ example (chain_lookup [] (replicate 16 0) 0) (Refused 15 TooShort)
-    ∷ example (chain_lookup [] (replicate 17 0) 0) (Refused 0 LayerLengths)
-    ∷ example (chain_lookup (zeros 4) (3 ∷ []) 0) (Refused 0 LayerLengths)
-    ∷ example (chain_lookup (zeros 4) (5 ∷ []) 0) (Refused 0 LayerLengths)
+    example (chain_lookup [] [] 0) (refused_at 0 LayerLengths)
+    ∷ example (chain_lookup [] (replicate 16 0) 0) (refused_at 15 TooShort)
+    ∷ example (chain_lookup [] (replicate 17 0) 0) (refused_at 0 LayerLengths)
+    ∷ example (chain_lookup (zeros 4) (3 ∷ []) 0) (refused_at 0 LayerLengths)
+    ∷ example (chain_lookup (zeros 4) (5 ∷ []) 0) (refused_at 0 LayerLengths)
     -- a refused header names its layer, the topmost one met
-    ∷ example (chain_lookup (zeros 4) (4 ∷ []) 0) (Refused 0 Magic)
-    ∷ example (chain_lookup (zeros 4) (4 ∷ 0 ∷ []) 0) (Refused 1 TooShort)
-    ∷ example (chain_lookup (zeros 4) (0 ∷ 4 ∷ []) 0) (Refused 1 Magic)
-    ∷ example (chain_lookup (joined (zeros 4 ∷ kdmv_sector 8 8 1 ∷ [])) (4 ∷ 512 ∷ []) 0) (Refused 0 Magic)
+    ∷ example (chain_lookup (zeros 4) (4 ∷ []) 0) (refused_at 0 Magic)
+    ∷ example (chain_lookup (zeros 4) (4 ∷ 0 ∷ []) 0) (refused_at 1 TooShort)
+    ∷ example (chain_lookup (zeros 4) (0 ∷ 4 ∷ []) 0) (refused_at 1 Magic)
+    ∷ example (chain_lookup (joined (zeros 4 ∷ kdmv_sector 8 8 1 ∷ [])) (4 ∷ 512 ∷ []) 0) (refused_at 0 Magic)
     -- 22: capacities or grain sizes differ, in any layer; it comes before 20
-    ∷ example (heads (kdmv_sector 8 8 1) (kdmv_sector 9 8 1) 9) (Refused 0 LayersDiffer)
-    ∷ example (heads (kdmv_sector 8 8 1) (kdmv_sector 8 16 1) 9) (Refused 0 LayersDiffer)
+    ∷ example (heads (kdmv_sector 8 8 1) (kdmv_sector 9 8 1) 9) (refused_at 0 LayersDiffer)
+    ∷ example (heads (kdmv_sector 8 8 1) (kdmv_sector 8 16 1) 9) (refused_at 0 LayersDiffer)
     -- 20 names layer 0; the lookup in the topmost layer names that one
-    ∷ example (heads (kdmv_sector 8 8 1) (kdmv_sector 8 8 1) 8) (Refused 0 SectorPast)
-    ∷ example (heads (kdmv_sector 8 8 1) (kdmv_sector 8 8 1) 7) (Refused 1 (Misplaced Directory))
+    ∷ example (heads (kdmv_sector 8 8 1) (kdmv_sector 8 8 1) 8) (refused_at 0 SectorPast)
+    ∷ example (heads (kdmv_sector 8 8 1) (kdmv_sector 8 8 1) 7) (refused_at 1 (Misplaced Directory))
     -- the topmost layer not absent, else layer 0 and absent
     ∷ example (two 0 0 7) (found 0 Absent)
     ∷ example (two 1 0 7) (found 0 Zero)
@@ -72,13 +73,13 @@ unfolding pick power_up_to le_at le_bytes same_at zeros directory_entries direct
 chains_hold = refl
 
 -- what a layer says of a sector, where the layers below say absent
-abbrev layers : List (Example ChainAnswer)
+abbrev layers : List (Example (Result LayerSource LayerRefusal))
 layers =
-    example (unless_absent 3 (found_in Absent) (found 0 Absent)) (found 0 Absent)
-    ∷ example (unless_absent 3 (found_in Zero) (found 0 Absent)) (found 3 Zero)
-    ∷ example (unless_absent 3 (found_in (Stored 9)) (found 0 Absent)) (found 3 (Stored 9))
-    ∷ example (unless_absent 3 (found_in (Packed 6 500 7)) (found 0 Absent)) (found 3 (Packed 6 500 7))
-    ∷ example (unless_absent 3 (lookup_refused (GrainPast 5)) (found 0 Absent)) (Refused 3 (GrainPast 5))
+    example (unless_absent 3 (Ok Absent) (found 0 Absent)) (found 0 Absent)
+    ∷ example (unless_absent 3 (Ok Zero) (found 0 Absent)) (found 3 Zero)
+    ∷ example (unless_absent 3 (Ok (Stored 9)) (found 0 Absent)) (found 3 (Stored 9))
+    ∷ example (unless_absent 3 (Ok (Packed 6 500 7)) (found 0 Absent)) (found 3 (Packed 6 500 7))
+    ∷ example (unless_absent 3 (Err (GrainPast 5)) (found 0 Absent)) (refused_at 3 (GrainPast 5))
     ∷ []
 
 pub layers_hold : Hold layers

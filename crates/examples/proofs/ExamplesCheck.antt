@@ -29,14 +29,14 @@ use Rattle.format.specs.declared.MisplacedPart.{MisplacedPart}
 use Rattle.format.specs.declared.MisplacedPart.TheVariants.{Descriptor, Directory, RedundantDirectory}
 use Rattle.format.specs.declared.MisplacedPart.TheVariants.{PrimaryTable, RedundantTable}
 use Rattle.format.specs.declared.Refusal.TheVariants.{Misplaced, GrainPast, Marker, CopiesDiffer, SharedSector}
-use Rattle.format.specs.declared.HeaderAnswer.TheVariants.{Known}
-use Rattle.format.specs.declared.CheckAnswer.TheVariants.{Accepted, Refused}
 use Rattle.examples.specs.Examples.{Example, example, Hold}
 use Rattle.examples.specs.Images.{with, kdmv_sector, packed, doubled, plain_header, stream_header}
 use Rattle.format.proofs.HeaderFooter.{kept_footer}
+use Rattle.std.specs.Prelude.{Ok, Err}
+use Rattle.format.specs.AnswerParts.{accepted_as}
 
 -- the check of an image whose header is known
-checked : (s : List ℕ) (h : Header) → judge s ≡ Known h → check s ≡ check_layout s h
+checked : (s : List ℕ) (h : Header) → judge s ≡ Ok h → check s ≡ check_layout s h
 unfolding check_from
 checked s h e = ap (check_from s) e
 
@@ -47,7 +47,7 @@ module _ (first size next next_size : ℕ) where
   footer_kept =
       record { multiple = refl; long = omega arith; front = refl; back = refl; last = refl; directory = λ e. omega (arith, e) }
 
-  pub packed_known : judge (packed first size next next_size) ≡ Known (stream_header 1)
+  pub packed_known : judge (packed first size next next_size) ≡ Ok (stream_header 1)
   unfolding pick power_up_to le_at le_bytes same_at over zeros directory_entries directory_sectors kdmv_fields kdmv_fault kdmv_header directory_of unless_fault with_footer judge_kdmv judge_of
   packed_known = rw (kept_footer _ footer_kept)
 
@@ -55,16 +55,16 @@ module _ (first size next next_size : ℕ) where
   packed_check = checked _ _ packed_known
 
 pub streams_checked :
-    (check (packed 0 500 8 501) ≡ Accepted 16 8)
+    (check (packed 0 500 8 501) ≡ accepted_as 16 8)
     -- 12: grain 0 takes two sectors
-    × (check (packed 0 501 8 501) ≡ Refused SharedSector)
+    × (check (packed 0 501 8 501) ≡ Err SharedSector)
     -- 10: a size of 0, another first sector; the lowest grain
-    × (check (packed 0 0 8 501) ≡ Refused (Marker 0))
-    × (check (packed 0 500 7 501) ≡ Refused (Marker 1))
-    × (check (packed 1 500 7 501) ≡ Refused (Marker 0))
+    × (check (packed 0 0 8 501) ≡ Err (Marker 0))
+    × (check (packed 0 500 7 501) ≡ Err (Marker 1))
+    × (check (packed 1 500 7 501) ≡ Err (Marker 0))
     -- 9 comes first: grain 1 past F by one byte, and not past it
-    × (check (packed 1 500 8 2549) ≡ Refused (GrainPast 1))
-    × (check (packed 1 500 8 2548) ≡ Refused (Marker 0))
+    × (check (packed 1 500 8 2549) ≡ Err (GrainPast 1))
+    × (check (packed 1 500 8 2548) ≡ Err (Marker 0))
 unfolding pick le_at le_bytes over zeros rows grains directory_entries meaning in_table entry_of_grain grain_sectors marker_broken if_there named redundant_tables areas runs_past shares shares_any meet misplaced lowest_from marker_broken_at copies_differ unless_grain check_apart check_copies check_grains check_layout
 streams_checked = (
   packed_check 0 500 8 501,
@@ -78,18 +78,18 @@ streams_checked = (
 
 -- ---- two directories
 pub copies_checked :
-    (check doubled ≡ Accepted 16 8)
+    (check doubled ≡ accepted_as 16 8)
     -- 8: a table of either past F
-    × (check (with 512 4 9 doubled) ≡ Refused (Misplaced PrimaryTable))
-    × (check (with 1024 4 9 doubled) ≡ Refused (Misplaced RedundantTable))
-    × (check (with 512 4 9 (with 1024 4 9 doubled)) ≡ Refused (Misplaced PrimaryTable))
+    × (check (with 512 4 9 doubled) ≡ Err (Misplaced PrimaryTable))
+    × (check (with 1024 4 9 doubled) ≡ Err (Misplaced RedundantTable))
+    × (check (with 512 4 9 (with 1024 4 9 doubled)) ≡ Err (Misplaced PrimaryTable))
     -- 9: grain 1 past F, before 11
-    × (check (with 1540 4 5 doubled) ≡ Refused (GrainPast 1))
+    × (check (with 1540 4 5 doubled) ≡ Err (GrainPast 1))
     -- 11: the copies differ in grain 1, before 12; the next entry is not in use
-    × (check (with 1540 4 2 doubled) ≡ Refused CopiesDiffer)
-    × (check (with 1544 4 2 doubled) ≡ Accepted 16 8)
+    × (check (with 1540 4 2 doubled) ≡ Err CopiesDiffer)
+    × (check (with 1544 4 2 doubled) ≡ accepted_as 16 8)
     -- 12: grain 1 on the tables and the descriptor
-    × (check (with 1540 4 4 (with 3588 4 4 doubled)) ≡ Refused SharedSector)
+    × (check (with 1540 4 4 (with 3588 4 4 doubled)) ≡ Err SharedSector)
 unfolding pick power_up_to le_at le_bytes same_at over zeros rows grains directory_entries directory_sectors kdmv_fields kdmv_fault kdmv_header directory_of unless_fault with_footer judge_kdmv judge_of meaning in_table entry_of_grain grain_sectors any_below if_there named redundant_tables areas runs_past shares shares_any meet misplaced lowest_misplaced lowest_from copy_differs copies_differ unless_grain check_apart check_copies check_grains check_layout
 copies_checked =
     let h = plain_header 11 1 1 2 in (

@@ -13,8 +13,9 @@ use Rattle.format.specs.Entries.{meaning, in_table, entry_of_grain, grain_sector
 use Rattle.format.specs.Areas.{Area, area, if_there, named, redundant_tables, areas, shares, shares_any}
 use Rattle.format.specs.CheckIn.{sectors_of, before_meeting, marked_sectors, came_to_marking}
 use Rattle.format.specs.declared.Refusal.TheVariants.{TooShort, GrainPast, CopiesDiffer, SharedSector, TooLittleRoom}
-use Rattle.format.specs.declared.CheckAnswer.TheVariants.{Accepted, Refused}
 use Rattle.examples.specs.Images.{packed, doubled, plain_header, stream_header}
+use Rattle.std.specs.Prelude.{Err}
+use Rattle.format.specs.AnswerParts.{accepted_as}
 
 -- ---- lists of areas: all that come before the first which meets an earlier one, and not that one
 pub numbers :
@@ -53,11 +54,11 @@ words = (refl, refl, refl, refl)
 
 -- ---- which answers come after marking: acceptance and 12
 pub marking :
-    (came_to_marking (Accepted 16 8) ≡ true)
-    × (came_to_marking (Refused SharedSector) ≡ true)
-    × (came_to_marking (Refused TooShort) ≡ false)
-    × (came_to_marking (Refused (GrainPast 12)) ≡ false)
-    × (came_to_marking (Refused CopiesDiffer) ≡ false)
-    × (came_to_marking (Refused TooLittleRoom) ≡ false)
+    (came_to_marking (accepted_as 16 8) ≡ true)
+    × (came_to_marking (Err SharedSector) ≡ true)
+    × (came_to_marking (Err TooShort) ≡ false)
+    × (came_to_marking (Err (GrainPast 12)) ≡ false)
+    × (came_to_marking (Err CopiesDiffer) ≡ false)
+    × (came_to_marking (Err TooLittleRoom) ≡ false)
 unfolding came_to_marking
 marking = (refl, refl, refl, refl, refl, refl)

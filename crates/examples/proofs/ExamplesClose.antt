@@ -23,10 +23,6 @@ use Rattle.format.specs.Tail.{kept_entry, has_grains, marker_bytes, table_parts,
 use Rattle.format.specs.Close.{closed_image, close_from, close_judged, close, tail_written, close_output}
 use Rattle.format.specs.declared.Refusal.TheVariants.{TooShort, Magic, Version, Flags, TooLittleRoom, NotClosable, KindGone}
 use Rattle.format.specs.declared.Source.TheVariants.{Packed}
-use Rattle.format.specs.declared.CheckAnswer.TheVariants.{Accepted}
-use Rattle.format.specs.declared.LookupAnswer.TheVariants.{Found}
-use Rattle.format.specs.declared.closing.CloseAnswer.{CloseAnswer}
-use Rattle.format.specs.declared.closing.CloseAnswer.TheVariants.{Closed, Refused}
 use Rattle.examples.specs.Images.{joined, with, start_sector, start, small_cowd, small, plain_header, stream_header}
 use Rattle.examples.specs.Images.{start_header}
 use Rattle.examples.specs.Examples.{Example, example, Hold}
@@ -34,6 +30,11 @@ use Rattle.laws.specs.Closed.{Closable, Among, first}
 use Rattle.laws.proofs.ClosedAccepted.{closed_accepted}
 use Rattle.laws.proofs.ClosedServed.{closed_packed}
 use Rattle.laws.proofs.ClosedAnswer.{closed_answer}
+use Rattle.std.specs.Prelude.{Result, Ok, Err}
+use Rattle.format.specs.declared.Refusal.{Refusal}
+use Rattle.format.specs.declared.closing.Kept.{Kept}
+use Rattle.format.specs.AnswerParts.{accepted_as}
+use Rattle.format.specs.AnswerParts.{closed_as}
 
 -- a grain of one sector, with its first virtual sector and its size, and a marker of another kind
 abbrev grain : ℕ → ℕ → List ℕ
@@ -87,21 +88,21 @@ others_hold = refl
 abbrev begun : ℕ → List ℕ
 begun overhead = joined (zeros 64 ∷ le_bytes 8 overhead ∷ zeros 952 ∷ [])
 
-abbrev judged : List (Example CloseAnswer)
+abbrev judged : List (Example (Result Kept Refusal))
 judged =
-    example (close_from (begun 2) (start_header 1 1 0) 2560) (Closed 2 0 2560)
-    ∷ example (close_from (begun 2) (start_header 1 1 0) 2559) (Refused TooLittleRoom)
+    example (close_from (begun 2) (start_header 1 1 0) 2560) (closed_as 2 0 2560)
+    ∷ example (close_from (begun 2) (start_header 1 1 0) 2559) (Err TooLittleRoom)
     -- a redundant directory; the directory not at the end
-    ∷ example (close_from (begun 2) (start_header 1 1 5) 2560) (Refused NotClosable)
-    ∷ example (close_from (begun 2) (plain_header 1 1 1 0) 2560) (Refused NotClosable)
+    ∷ example (close_from (begun 2) (start_header 1 1 5) 2560) (Err NotClosable)
+    ∷ example (close_from (begun 2) (plain_header 1 1 1 0) 2560) (Err NotClosable)
     -- overhead under 2 and past F; 41 comes before 21
-    ∷ example (close_from (begun 1) (start_header 0 0 0) 2560) (Refused NotClosable)
-    ∷ example (close_from (begun 3) (start_header 0 0 0) 0) (Refused NotClosable)
+    ∷ example (close_from (begun 1) (start_header 0 0 0) 2560) (Err NotClosable)
+    ∷ example (close_from (begun 3) (start_header 0 0 0) 0) (Err NotClosable)
     -- no descriptor, one number zero and one not, one that runs into the overhead's sector
-    ∷ example (close_from (begun 2) (start_header 0 0 0) 2560) (Closed 2 0 2560)
-    ∷ example (close_from (begun 2) (start_header 1 0 0) 2560) (Refused NotClosable)
-    ∷ example (close_from (begun 2) (start_header 0 1 0) 2560) (Refused NotClosable)
-    ∷ example (close_from (begun 2) (start_header 1 2 0) 2560) (Refused NotClosable)
+    ∷ example (close_from (begun 2) (start_header 0 0 0) 2560) (closed_as 2 0 2560)
+    ∷ example (close_from (begun 2) (start_header 1 0 0) 2560) (Err NotClosable)
+    ∷ example (close_from (begun 2) (start_header 0 1 0) 2560) (Err NotClosable)
+    ∷ example (close_from (begun 2) (start_header 1 2 0) 2560) (Err NotClosable)
     ∷ []
 
 pub judged_hold : Hold judged
@@ -111,14 +112,14 @@ judged_hold = refl
 -- ---- whole starts
 pub starts_hold :
     -- 7 is not given: there is no footer
-    (close start 2560 ≡ Closed 2 0 2560)
-    × (close [] 2560 ≡ Refused TooShort)
-    × (close (zeros 4) 2560 ≡ Refused Magic)
-    × (close (with 4 4 4 start) 2560 ≡ Refused Version)
-    × (close (with 8 4 0x10005 start) 2560 ≡ Refused Flags)
+    (close start 2560 ≡ closed_as 2 0 2560)
+    × (close [] 2560 ≡ Err TooShort)
+    × (close (zeros 4) 2560 ≡ Err Magic)
+    × (close (with 4 4 4 start) 2560 ≡ Err Version)
+    × (close (with 8 4 0x10005 start) 2560 ≡ Err Flags)
     -- COWD is 43; an image whose directory is not at the end 41
-    × (close small_cowd 2560 ≡ Refused KindGone)
-    × (close (small 0 0 0 0) 2560 ≡ Refused NotClosable)
+    × (close small_cowd 2560 ≡ Err KindGone)
+    × (close (small 0 0 0 0) 2560 ≡ Err NotClosable)
 unfolding pick power_up_to le_at le_bytes same_at over zeros sum_below directory_entries directory_sectors kdmv_fields kdmv_fault kdmv_header unless_fault kind_gone judge_cowd judge_kdmv_start judge_start grain_sectors if_whole block_at walk_on walk grains_end has_grains close_from close_judged
 starts_hold = (refl, refl, refl, refl, refl, refl, refl)
 
@@ -153,7 +154,7 @@ outputs_hold = (refl, refl)
 abbrev one_grain : List ℕ
 one_grain = start ++ grain 8 500
 
-one_closed : close one_grain 5120 ≡ Closed 3 1 5120
+one_closed : close one_grain 5120 ≡ closed_as 3 1 5120
 unfolding pick power_up_to le_at le_bytes same_at over zeros sum_below directory_entries directory_sectors kdmv_fields kdmv_fault kdmv_header unless_fault judge_kdmv_start judge_start grain_sectors if_whole block_at walk_on walk grains_end has_grains close_from close_judged
 one_closed = refl
 
@@ -164,13 +165,13 @@ one_kept : kept_grains one_grain (start_of one_grain) ≡ kept_grain 1 2 1 ∷ [
 unfolding pick le_at le_bytes over zeros kdmv_fields kdmv_header grain_sectors if_whole block_at walk_on walk
 one_kept = refl
 
-pub one_accepted : check (closed_image one_grain) ≡ Accepted 16 8
+pub one_accepted : check (closed_image one_grain) ≡ accepted_as 16 8
 unfolding le_at le_bytes over zeros kdmv_fields kdmv_header
 one_accepted = closed_accepted one_grain one_closable
 
 one_among : Among (kept_grain 1 2 1) (kept_grains one_grain (start_of one_grain))
 one_among = rw one_kept first
 
-pub one_served : sector_lookup (closed_image one_grain) 9 ≡ Found (Packed 2 500 1)
+pub one_served : sector_lookup (closed_image one_grain) 9 ≡ Ok (Packed 2 500 1)
 unfolding le_at le_bytes over zeros kdmv_fields kdmv_header
 one_served = closed_packed one_grain one_closable 9 (lit< tt) one_among refl

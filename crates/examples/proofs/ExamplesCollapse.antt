@@ -19,11 +19,11 @@ use Rattle.format.specs.Collapse.{if_accepted, written_if_room, normal_from, nor
 use Rattle.format.specs.declared.Kind.TheVariants.{Kdmv}
 use Rattle.format.specs.declared.Refusal.TheVariants.{TooShort, Magic, TooLittleRoom, LayersDiffer, NotCollapsible, StillOpen}
 use Rattle.format.specs.declared.Refusal.TheVariants.{KindGone}
-use Rattle.format.specs.declared.CheckAnswer.TheVariants.{Accepted}
-use Rattle.format.specs.declared.CollapseAnswer.{CollapseAnswer}
-use Rattle.format.specs.declared.CollapseAnswer.TheVariants.{Written, Refused}
 use Rattle.examples.specs.Examples.{Example, example, Hold}
 use Rattle.examples.specs.Images.{joined, cowd_sectors, sized_header, open_header, stream_header}
+use Rattle.std.specs.Prelude.{Result, Ok, Err}
+use Rattle.format.specs.declared.Refusal.{Refusal}
+use Rattle.format.specs.AnswerParts.{accepted_as}
 
 -- grain 0 is zero, grain 1 stored, all others absent
 abbrev grains_of : List ℕ → Map
@@ -32,33 +32,33 @@ grains_of bytes (suc zero) = stored bytes
 grains_of bytes (suc (suc g)) = absent
 
 -- ---- answers
-abbrev answers : List (Example CollapseAnswer)
+abbrev answers : List (Example (Result ℕ Refusal))
 answers =
     -- the check comes first, the lower's before the upper's
-    example (normal [] 0) (Refused TooShort)
-    ∷ example (collapse (zeros 4) [] 0) (Refused Magic)
-    ∷ example (if_accepted (Accepted 16 8) (Written 1)) (Written 1)
+    example (normal [] 0) (Err TooShort)
+    ∷ example (collapse (zeros 4) [] 0) (Err Magic)
+    ∷ example (if_accepted (accepted_as 16 8) (Ok 1)) (Ok 1)
     -- 43 is the check's
-    ∷ example (normal (cowd_sectors 1 1 4 1) 0) (Refused KindGone)
-    ∷ example (collapse (cowd_sectors 1 1 4 1) [] 0) (Refused KindGone)
+    ∷ example (normal (cowd_sectors 1 1 4 1) 0) (Err KindGone)
+    ∷ example (collapse (cowd_sectors 1 1 4 1) [] 0) (Err KindGone)
     -- 23: compressed, either one of two
-    ∷ example (normal_from (stream_header 1) (grains_of []) 9999) (Refused NotCollapsible)
-    ∷ example (collapse_from (stream_header 1) (sized_header 16 8) (grains_of []) 9999) (Refused NotCollapsible)
-    ∷ example (collapse_from (sized_header 17 8) (stream_header 1) (grains_of []) 9999) (Refused NotCollapsible)
+    ∷ example (normal_from (stream_header 1) (grains_of []) 9999) (Err NotCollapsible)
+    ∷ example (collapse_from (stream_header 1) (sized_header 16 8) (grains_of []) 9999) (Err NotCollapsible)
+    ∷ example (collapse_from (sized_header 17 8) (stream_header 1) (grains_of []) 9999) (Err NotCollapsible)
     -- 22: capacities or grain sizes differ; it comes before 27 and 21
-    ∷ example (collapse_from (sized_header 16 8) (sized_header 17 8) (grains_of []) 0) (Refused LayersDiffer)
-    ∷ example (collapse_from (sized_header 16 8) (sized_header 16 16) (grains_of []) 0) (Refused LayersDiffer)
-    ∷ example (collapse_from (open_header 16 8 1) (open_header 17 8 1) (grains_of []) 0) (Refused LayersDiffer)
+    ∷ example (collapse_from (sized_header 16 8) (sized_header 17 8) (grains_of []) 0) (Err LayersDiffer)
+    ∷ example (collapse_from (sized_header 16 8) (sized_header 16 16) (grains_of []) 0) (Err LayersDiffer)
+    ∷ example (collapse_from (open_header 16 8 1) (open_header 17 8 1) (grains_of []) 0) (Err LayersDiffer)
     -- 27: any number but 0, either one of two; it comes after 23 and before 21
-    ∷ example (normal_from (open_header 16 8 1) (grains_of []) 0) (Refused StillOpen)
-    ∷ example (normal_from (open_header 16 8 255) (grains_of []) 9999) (Refused StillOpen)
-    ∷ example (collapse_from (open_header 16 8 2) (sized_header 16 8) (grains_of []) 0) (Refused StillOpen)
-    ∷ example (collapse_from (sized_header 16 8) (open_header 16 8 1) (grains_of []) 9999) (Refused StillOpen)
+    ∷ example (normal_from (open_header 16 8 1) (grains_of []) 0) (Err StillOpen)
+    ∷ example (normal_from (open_header 16 8 255) (grains_of []) 9999) (Err StillOpen)
+    ∷ example (collapse_from (open_header 16 8 2) (sized_header 16 8) (grains_of []) 0) (Err StillOpen)
+    ∷ example (collapse_from (sized_header 16 8) (open_header 16 8 1) (grains_of []) 9999) (Err StillOpen)
     -- 21: V is 8 and one grain is stored, so 8,192 bytes
-    ∷ example (collapse_from (sized_header 16 8) (sized_header 16 8) (grains_of []) 8191) (Refused TooLittleRoom)
-    ∷ example (collapse_from (sized_header 16 8) (sized_header 16 8) (grains_of []) 8192) (Written 8192)
-    ∷ example (normal_from (sized_header 16 8) (grains_of []) 8191) (Refused TooLittleRoom)
-    ∷ example (normal_from (sized_header 16 8) (grains_of []) 8192) (Written 8192)
+    ∷ example (collapse_from (sized_header 16 8) (sized_header 16 8) (grains_of []) 8191) (Err TooLittleRoom)
+    ∷ example (collapse_from (sized_header 16 8) (sized_header 16 8) (grains_of []) 8192) (Ok 8192)
+    ∷ example (normal_from (sized_header 16 8) (grains_of []) 8191) (Err TooLittleRoom)
+    ∷ example (normal_from (sized_header 16 8) (grains_of []) 8192) (Ok 8192)
     ∷ []
 
 pub answers_hold : Hold answers
@@ -115,8 +115,8 @@ bytes =
     ∷ example (clip 1 2 0 (replicate 1024 7)) (replicate 512 7 ++ zeros 512)
     ∷ example (clip 3 2 1 (replicate 1024 7)) (replicate 512 7 ++ zeros 512)
     -- the output past the image keeps what it held; on a refusal all of it does
-    ∷ example (output (Written 2) (7 ∷ 9 ∷ []) (1 ∷ 2 ∷ 3 ∷ [])) (7 ∷ 9 ∷ 3 ∷ [])
-    ∷ example (output (Refused TooLittleRoom) (7 ∷ 9 ∷ []) (1 ∷ 2 ∷ 3 ∷ [])) (1 ∷ 2 ∷ 3 ∷ [])
+    ∷ example (output (Ok 2) (7 ∷ 9 ∷ []) (1 ∷ 2 ∷ 3 ∷ [])) (7 ∷ 9 ∷ 3 ∷ [])
+    ∷ example (output (Err TooLittleRoom) (7 ∷ 9 ∷ []) (1 ∷ 2 ∷ 3 ∷ [])) (1 ∷ 2 ∷ 3 ∷ [])
     ∷ []
 
 pub bytes_hold : Hold bytes

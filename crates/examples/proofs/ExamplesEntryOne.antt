@@ -26,10 +26,9 @@ use Rattle.format.specs.Collapse.{if_accepted, written_if_room, normal_from, nor
 use Rattle.format.specs.declared.Taken.TheVariants.{Either}
 use Rattle.format.specs.declared.Source.TheVariants.{Absent, Zero, Stored}
 use Rattle.format.specs.declared.Refusal.TheVariants.{Flags, GrainPast, CopiesDiffer, SharedSector}
-use Rattle.format.specs.declared.CheckAnswer.TheVariants.{Accepted, Refused}
-use Rattle.format.specs.declared.LookupAnswer.TheVariants.{Found}
-use Rattle.format.specs.declared.CollapseAnswer.TheVariants.{Written}
 use Rattle.examples.specs.Images.{joined, with, flagged_sector, cowd_sectors}
+use Rattle.std.specs.Prelude.{Ok, Err}
+use Rattle.format.specs.AnswerParts.{accepted_as}
 
 -- ---- images, by version and flags
 -- the directory at sector 1, the table at 2 with a 1 for grain 0; `long` sectors from 6 on
@@ -83,61 +82,61 @@ zeros_by = (refl, refl, refl, refl, refl, refl, refl, refl)
 -- ---- the check
 pub damaged_checked :
     -- never zeros in version 1 or without the flag: grain 0 stands on the directory, or runs past F
-    (check (damaged 1 1 4) ≡ Refused SharedSector)
-    × (check (damaged 1 1 2) ≡ Refused (GrainPast 0))
-    × (check (damaged 2 1 4) ≡ Refused SharedSector)
-    × (check (damaged 3 1 4) ≡ Refused SharedSector)
+    (check (damaged 1 1 4) ≡ Err SharedSector)
+    × (check (damaged 1 1 2) ≡ Err (GrainPast 0))
+    × (check (damaged 2 1 4) ≡ Err SharedSector)
+    × (check (damaged 3 1 4) ≡ Err SharedSector)
     -- zeros, and 5 for the flag in version 1
-    × (check (damaged 2 5 0) ≡ Accepted 16 8)
-    × (check (damaged 3 5 0) ≡ Accepted 16 8)
-    × (check (damaged 1 5 0) ≡ Refused Flags)
+    × (check (damaged 2 5 0) ≡ accepted_as 16 8)
+    × (check (damaged 3 5 0) ≡ accepted_as 16 8)
+    × (check (damaged 1 5 0) ≡ Err Flags)
 unfolding pick power_up_to le_at le_bytes same_at zeros rows grains directory_entries directory_sectors kdmv_fields kdmv_fault kdmv_header directory_of unless_fault with_footer judge_kdmv judge_of meaning in_table entry_of_grain grain_sectors if_there named redundant_tables areas runs_past shares shares_any meet misplaced lowest_from copies_differ unless_grain check_apart check_copies check_grains check_layout check_from
 damaged_checked = (refl, refl, refl, refl, refl, refl, refl)
 
 pub at_one_checked :
-    (check (tabled 1 1) ≡ Accepted 16 8)
-    × (check (grained 1 1) ≡ Accepted 8 8)
-    × (check (grained 3 1) ≡ Accepted 8 8)
+    (check (tabled 1 1) ≡ accepted_as 16 8)
+    × (check (grained 1 1) ≡ accepted_as 8 8)
+    × (check (grained 3 1) ≡ accepted_as 8 8)
 unfolding pick power_up_to le_at le_bytes same_at zeros rows grains directory_entries directory_sectors kdmv_fields kdmv_fault kdmv_header directory_of unless_fault with_footer judge_kdmv judge_of meaning in_table entry_of_grain grain_sectors if_there named redundant_tables areas runs_past shares shares_any meet misplaced lowest_from copies_differ unless_grain check_apart check_copies check_grains check_layout check_from
 at_one_checked = (refl, refl, refl)
 
 -- in COWD, by the check that the moves keep: sector 1 is the header's
-pub old_checked : check_of Either old ≡ Refused SharedSector
+pub old_checked : check_of Either old ≡ Err SharedSector
 unfolding pick power_up_to le_at le_bytes same_at zeros rows grains directory_entries directory_sectors cowd_fields cowd_fault cowd_header unless_fault kind_gone judge_cowd judge_of meaning in_table entry_of_grain grain_sectors if_there named redundant_tables areas runs_past shares shares_any meet misplaced lowest_from copies_differ unless_grain check_apart check_copies check_grains check_layout check_from
 old_checked = refl
 
 -- ---- 11 goes by meaning
 pub copies_checked :
     -- tables at 1 and at 5, both of absent grains; at 1 and at 2 they meet; a 0 names none
-    (check (copied 1 1 1 5) ≡ Accepted 16 8)
-    × (check (copied 1 1 5 1) ≡ Accepted 16 8)
-    × (check (copied 1 1 1 2) ≡ Refused SharedSector)
-    × (check (copied 1 1 1 0) ≡ Refused CopiesDiffer)
+    (check (copied 1 1 1 5) ≡ accepted_as 16 8)
+    × (check (copied 1 1 5 1) ≡ accepted_as 16 8)
+    × (check (copied 1 1 1 2) ≡ Err SharedSector)
+    × (check (copied 1 1 1 0) ≡ Err CopiesDiffer)
     -- zeros in both, or in one alone
-    × (check (copied 2 5 1 1) ≡ Accepted 16 8)
-    × (check (copied 2 5 1 5) ≡ Refused CopiesDiffer)
-    × (check (copied 2 5 5 1) ≡ Refused CopiesDiffer)
+    × (check (copied 2 5 1 1) ≡ accepted_as 16 8)
+    × (check (copied 2 5 1 5) ≡ Err CopiesDiffer)
+    × (check (copied 2 5 5 1) ≡ Err CopiesDiffer)
     -- the tables at 1 and 5 differ in grain 1: it is absent, and at 11
-    × (check (with 2564 4 11 (copied 1 1 1 5) ++ zeros 4096) ≡ Refused CopiesDiffer)
+    × (check (with 2564 4 11 (copied 1 1 1 5) ++ zeros 4096) ≡ Err CopiesDiffer)
 unfolding pick power_up_to le_at le_bytes same_at over zeros rows grains directory_entries directory_sectors kdmv_fields kdmv_fault kdmv_header directory_of unless_fault with_footer judge_kdmv judge_of meaning in_table entry_of_grain grain_sectors any_below if_there named redundant_tables areas runs_past shares shares_any meet misplaced lowest_from copy_differs copies_differ unless_grain check_apart check_copies check_grains check_layout check_from
 copies_checked = (refl, refl, refl, refl, refl, refl, refl, refl)
 
 -- ---- the lookup: sector 1 + o, an entry of the table at sector 1, and zeros
 pub one_looked :
-    (sector_lookup (damaged 1 1 4) 7 ≡ Found (Stored 8))
-    × (sector_lookup (grained 1 1) 0 ≡ Found (Stored 1))
-    × (sector_lookup (tabled 1 1) 0 ≡ Found Absent)
-    × (sector_lookup (damaged 2 5 4) 7 ≡ Found Zero)
-    × (sector_lookup (grained 2 5) 0 ≡ Found Zero)
-    × (sector_lookup (tabled 3 5) 0 ≡ Found Zero)
+    (sector_lookup (damaged 1 1 4) 7 ≡ Ok (Stored 8))
+    × (sector_lookup (grained 1 1) 0 ≡ Ok (Stored 1))
+    × (sector_lookup (tabled 1 1) 0 ≡ Ok Absent)
+    × (sector_lookup (damaged 2 5 4) 7 ≡ Ok Zero)
+    × (sector_lookup (grained 2 5) 0 ≡ Ok Zero)
+    × (sector_lookup (tabled 3 5) 0 ≡ Ok Zero)
 unfolding pick power_up_to le_at le_bytes same_at zeros directory_entries directory_sectors kdmv_fields kdmv_fault kdmv_header directory_of unless_fault with_footer judge_kdmv judge_of meaning grain_sectors grain_source lookup_grain lookup_entry lookup_table lookup_in lookup_from
 one_looked = (refl, refl, refl, refl, refl, refl)
 
 -- ---- collapse: a grain at sector 1 is copied, a zero one is not, whichever layer has it
 pub one_collapsed :
-    (normal (grained 1 1) 8192 ≡ Written 8192)
-    × (normal (grained 2 5) 8192 ≡ Written 4096)
-    × (collapse (grained 2 5) (grained 1 1) 8192 ≡ Written 8192)
-    × (collapse (grained 1 1) (grained 2 5) 8192 ≡ Written 4096)
+    (normal (grained 1 1) 8192 ≡ Ok 8192)
+    × (normal (grained 2 5) 8192 ≡ Ok 4096)
+    × (collapse (grained 2 5) (grained 1 1) 8192 ≡ Ok 8192)
+    × (collapse (grained 1 1) (grained 2 5) 8192 ≡ Ok 4096)
 unfolding pick power_up_to le_at le_bytes same_at zeros rows grains directory_entries directory_sectors kdmv_fields kdmv_fault kdmv_header directory_of header_of unless_fault with_footer judge_kdmv judge_of meaning in_table entry_of_grain grain_sectors if_there named redundant_tables areas runs_past shares shares_any meet misplaced lowest_from copies_differ unless_grain check_apart check_copies check_grains check_layout check_from grain_from one_if_stored stored_below table_count tables_at tables_end sector_v sectors_laid if_accepted written_if_room normal_from upper_unless_absent unlike collapse_from
 one_collapsed = (refl, refl, refl, refl)

@@ -17,9 +17,9 @@ use Rattle.format.specs.Header.{kdmv_header, directory_of, unless_fault, with_fo
 use Rattle.format.specs.Accepted.{FooterRules}
 use Rattle.format.specs.declared.Header.{Header}
 use Rattle.format.specs.declared.Refusal.TheVariants.{Footer}
-use Rattle.format.specs.declared.HeaderAnswer.TheVariants.{Known, Refused}
 use Rattle.examples.specs.Images.{with, stream, stream_header}
 use Rattle.format.proofs.HeaderFooter.{footer_kept, kept_footer}
+use Rattle.std.specs.Prelude.{Ok, Err}
 
 -- four sectors: sector 0, one that nothing judges, the footer and the last one
 abbrev four : ℕ → List ℕ
@@ -31,15 +31,15 @@ four_kept =
     record { multiple = refl; long = omega arith; front = refl; back = refl; last = refl; directory = λ e. omega (arith, e) }
 
 -- the footer's directory sector counts
-pub footer_told : judge (four 0x1112131415161718) ≡ Known (stream_header 0x1112131415161718)
+pub footer_told : judge (four 0x1112131415161718) ≡ Ok (stream_header 0x1112131415161718)
 unfolding pick power_up_to le_at le_bytes same_at over zeros directory_entries directory_sectors kdmv_fields kdmv_fault kdmv_header directory_of unless_fault with_footer judge_kdmv judge_of
 footer_told = rw (kept_footer _ four_kept)
 
 -- ---- streams that break one rule: 7
-broken : (s : List ℕ) (h : Header) → judge s ≡ pick (footer_broken s) (Refused Footer) (Known h) → (FooterRules s → ⊥)
-    → judge s ≡ Refused Footer
+broken : (s : List ℕ) (h : Header) → judge s ≡ pick (footer_broken s) (Err Footer) (Ok h) → (FooterRules s → ⊥)
+    → judge s ≡ Err Footer
 broken s h e n =
-    e ∙ cond_all (λ a. a ≡ Refused Footer) (footer_broken s) _ _ (λ t. refl) (λ f. absurd (n (footer_kept s f)))
+    e ∙ cond_all (λ a. a ≡ Err Footer) (footer_broken s) _ _ (λ t. refl) (λ f. absurd (n (footer_kept s f)))
 
 -- byte i of two parts that are equal
 byte_same : (i : ℕ) {v w : List ℕ} → v ≡ w → get_or v i 0 ≡ get_or w i 0
@@ -51,14 +51,14 @@ changed at = with at 1 0x77 (four 5)
 
 -- a length that is no multiple of 512, F 3, a byte of the footer or of the last sector, the directory all ones again
 pub footers_refused :
-    (judge (four 5 ++ zeros 1) ≡ Refused Footer)
-    × (judge (stream [] 5) ≡ Refused Footer)
-    × (judge (changed 1079) ≡ Refused Footer)
-    × (judge (changed 1088) ≡ Refused Footer)
-    × (judge (changed 1535) ≡ Refused Footer)
-    × (judge (changed 1536) ≡ Refused Footer)
-    × (judge (changed 2047) ≡ Refused Footer)
-    × (judge (four 0xffffffffffffffff) ≡ Refused Footer)
+    (judge (four 5 ++ zeros 1) ≡ Err Footer)
+    × (judge (stream [] 5) ≡ Err Footer)
+    × (judge (changed 1079) ≡ Err Footer)
+    × (judge (changed 1088) ≡ Err Footer)
+    × (judge (changed 1535) ≡ Err Footer)
+    × (judge (changed 1536) ≡ Err Footer)
+    × (judge (changed 2047) ≡ Err Footer)
+    × (judge (four 0xffffffffffffffff) ≡ Err Footer)
 unfolding pick power_up_to le_at le_bytes same_at over zeros directory_entries directory_sectors kdmv_fields kdmv_fault kdmv_header directory_of unless_fault with_footer judge_kdmv judge_of
 footers_refused = (
   broken (four 5 ++ zeros 1) (stream_header 5) refl (λ r. omega (arith, r.multiple)),

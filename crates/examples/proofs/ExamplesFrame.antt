@@ -12,12 +12,11 @@ use Rattle.format.specs.Areas.{if_there, named, redundant_tables, runs_past}
 use Rattle.format.specs.Check.{misplaced, lowest_misplaced}
 use Rattle.format.specs.Frame.{told_area, told, frame_words, frame_areas, listed_if_room, frame_from, list_after}
 use Rattle.format.specs.declared.Header.{Header}
-use Rattle.format.specs.declared.HeaderAnswer.TheVariants.{Known, Refused as unknown}
 use Rattle.format.specs.declared.MisplacedPart.TheVariants.{Directory}
 use Rattle.format.specs.declared.Refusal.TheVariants.{Flags, Misplaced, TooLittleRoom}
-use Rattle.format.specs.declared.FrameAnswer.{FrameAnswer}
-use Rattle.format.specs.declared.FrameAnswer.TheVariants.{Listed, Refused}
 use Rattle.examples.specs.Images.{doubled, packed, plain_header, stream_header}
+use Rattle.std.specs.Prelude.{Result, Ok, Err}
+use Rattle.format.specs.declared.Refusal.{Refusal}
 
 -- ---- the words
 -- header, descriptor, both directories, and a table of each
@@ -35,20 +34,20 @@ unfolding pick le_at le_bytes over zeros rows directory_entries meaning if_there
 words_stream = refl
 
 -- ---- the answer: room for all words or one fewer, a directory past F, a refused header
-abbrev asked : ℕ → Header → FrameAnswer
-asked room h = frame_from doubled room (Known h)
+abbrev asked : ℕ → Header → Result ℕ Refusal
+asked room h = frame_from doubled room (Ok h)
 
 pub answers_doubled :
-    (asked 18 (plain_header 11 1 1 2) ≡ Listed 6)
-    × (asked 17 (plain_header 11 1 1 2) ≡ Refused TooLittleRoom)
-    × (asked 0 (plain_header 11 1 12 2) ≡ Refused (Misplaced Directory))
-    × (frame_from doubled 18 (unknown Flags) ≡ Refused Flags)
+    (asked 18 (plain_header 11 1 1 2) ≡ Ok 6)
+    × (asked 17 (plain_header 11 1 1 2) ≡ Err TooLittleRoom)
+    × (asked 0 (plain_header 11 1 12 2) ≡ Err (Misplaced Directory))
+    × (frame_from doubled 18 (Err Flags) ≡ Err Flags)
 unfolding pick le_at le_bytes over zeros rows directory_entries meaning if_there named redundant_tables runs_past misplaced lowest_misplaced frame_areas listed_if_room frame_from
 answers_doubled = (refl, refl, refl, refl)
 
 -- ---- the list: words from its start on, and the rest as it was; on a refusal all as it was
 pub lists :
-    (list_after (Listed 1) (1 ∷ 0 ∷ 1 ∷ []) (9 ∷ 9 ∷ 9 ∷ 9 ∷ []) ≡ 1 ∷ 0 ∷ 1 ∷ 9 ∷ [])
-    × (list_after (Refused TooLittleRoom) (1 ∷ 0 ∷ 1 ∷ []) (9 ∷ 9 ∷ []) ≡ 9 ∷ 9 ∷ [])
+    (list_after (Ok 1) (1 ∷ 0 ∷ 1 ∷ []) (9 ∷ 9 ∷ 9 ∷ 9 ∷ []) ≡ 1 ∷ 0 ∷ 1 ∷ 9 ∷ [])
+    × (list_after (Err TooLittleRoom) (1 ∷ 0 ∷ 1 ∷ []) (9 ∷ 9 ∷ []) ≡ 9 ∷ 9 ∷ [])
 unfolding over list_after
 lists = (refl, refl)

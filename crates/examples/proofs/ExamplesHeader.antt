@@ -16,35 +16,34 @@ use Rattle.format.specs.Header.{kdmv_header, cowd_header, directory_of, unless_f
 use Rattle.format.specs.Header.{judge_cowd, judge_of, judge}
 use Rattle.format.specs.declared.Taken.TheVariants.{Either}
 use Rattle.format.specs.declared.KdmvFields.{KdmvFields}
-use Rattle.format.specs.declared.Fault.{Fault}
-use Rattle.format.specs.declared.Fault.TheVariants.{None, Found}
 use Rattle.format.specs.declared.Refusal.TheVariants.{TooShort, Magic, Version, Newline, Flags, Sizes, KindGone}
-use Rattle.format.specs.declared.HeaderAnswer.{HeaderAnswer}
-use Rattle.format.specs.declared.HeaderAnswer.TheVariants.{Known, Refused}
 use Rattle.examples.specs.Examples.{Example, example, Hold}
 use Rattle.examples.specs.Images.{joined, with, kdmv_sector, cowd_sectors}
+use Rattle.std.specs.Prelude.{Result, Ok, Err}
+use Rattle.format.specs.declared.Header.{Header}
+use Rattle.format.specs.declared.Refusal.{Refusal}
 
 -- ---- 1 and 2, by the first bytes and the length
-abbrev kinds : List (Example HeaderAnswer)
+abbrev kinds : List (Example (Result Header Refusal))
 kinds =
-    example (judge []) (Refused TooShort)
-    ∷ example (judge (zeros 3)) (Refused TooShort)
-    ∷ example (judge (zeros 4)) (Refused Magic)
+    example (judge []) (Err TooShort)
+    ∷ example (judge (zeros 3)) (Err TooShort)
+    ∷ example (judge (zeros 4)) (Err Magic)
     -- each byte of a known magic counts
-    ∷ example (judge (0x4b ∷ 0x44 ∷ 0x4d ∷ 0x56 ∷ [])) (Refused TooShort)
-    ∷ example (judge (0x43 ∷ 0x4f ∷ 0x57 ∷ 0x44 ∷ [])) (Refused TooShort)
-    ∷ example (judge (0x4b ∷ 0x44 ∷ 0x4d ∷ 0x57 ∷ [])) (Refused Magic)
-    ∷ example (judge (0x43 ∷ 0x4f ∷ 0x57 ∷ 0x45 ∷ [])) (Refused Magic)
+    ∷ example (judge (0x4b ∷ 0x44 ∷ 0x4d ∷ 0x56 ∷ [])) (Err TooShort)
+    ∷ example (judge (0x43 ∷ 0x4f ∷ 0x57 ∷ 0x44 ∷ [])) (Err TooShort)
+    ∷ example (judge (0x4b ∷ 0x44 ∷ 0x4d ∷ 0x57 ∷ [])) (Err Magic)
+    ∷ example (judge (0x43 ∷ 0x4f ∷ 0x57 ∷ 0x45 ∷ [])) (Err Magic)
     -- a sector of KDMV, four of COWD
-    ∷ example (judge (take 511 (kdmv_sector 0 8 1))) (Refused TooShort)
-    ∷ example (judge (kdmv_sector 0 8 1)) (Refused Sizes)
-    ∷ example (judge (take 2047 (cowd_sectors 0 1 4 1))) (Refused TooShort)
+    ∷ example (judge (take 511 (kdmv_sector 0 8 1))) (Err TooShort)
+    ∷ example (judge (kdmv_sector 0 8 1)) (Err Sizes)
+    ∷ example (judge (take 2047 (cowd_sectors 0 1 4 1))) (Err TooShort)
     -- COWD is 43, before 3 and 6; the moves go on to these
-    ∷ example (judge (cowd_sectors 0 1 4 1)) (Refused KindGone)
-    ∷ example (judge (with 4 4 2 (cowd_sectors 1 1 4 1))) (Refused KindGone)
-    ∷ example (judge_of Either (take 2047 (cowd_sectors 0 1 4 1))) (Refused TooShort)
-    ∷ example (judge_of Either (cowd_sectors 0 1 4 1)) (Refused Sizes)
-    ∷ example (judge_of Either (with 4 4 2 (cowd_sectors 1 1 4 1))) (Refused Version)
+    ∷ example (judge (cowd_sectors 0 1 4 1)) (Err KindGone)
+    ∷ example (judge (with 4 4 2 (cowd_sectors 1 1 4 1))) (Err KindGone)
+    ∷ example (judge_of Either (take 2047 (cowd_sectors 0 1 4 1))) (Err TooShort)
+    ∷ example (judge_of Either (cowd_sectors 0 1 4 1)) (Err Sizes)
+    ∷ example (judge_of Either (with 4 4 2 (cowd_sectors 1 1 4 1))) (Err Version)
     ∷ []
 
 -- ---- 3 to 6 of KDMV
@@ -67,54 +66,54 @@ fields version flags capacity grain_size entries redundant directory newline com
     }
 
 -- a header whose flags, compression, redundant directory and directory are these
-abbrev flagged : ℕ → ℕ → ℕ → ℕ → Fault
+abbrev flagged : ℕ → ℕ → ℕ → ℕ → Result (Unit {0}) Refusal
 flagged flags compression redundant directory = kdmv_fault (fields 2 flags 16 8 512 redundant directory true compression)
 
-abbrev kdmv_rules : List (Example (List Fault))
+abbrev kdmv_rules : List (Example (List (Result (Unit {0}) Refusal)))
 kdmv_rules =
     -- version is 1, 2 or 3
     example (map (λ v. kdmv_fault (fields v 0 16 8 512 0 1 true 0)) (0 ∷ 1 ∷ 2 ∷ 3 ∷ 4 ∷ []))
-    (Found Version ∷ None ∷ None ∷ None ∷ Found Version ∷ [])
+    (Err Version ∷ (Ok tt) ∷ (Ok tt) ∷ (Ok tt) ∷ Err Version ∷ [])
     -- newline bytes count where 0x1 is set
     ∷ example (map (λ f. kdmv_fault (fields 2 f 16 8 512 0 1 false 0)) (0 ∷ 1 ∷ 4 ∷ 5 ∷ []))
-    (None ∷ Found Newline ∷ None ∷ Found Newline ∷ [])
+    ((Ok tt) ∷ Err Newline ∷ (Ok tt) ∷ Err Newline ∷ [])
     -- no bit but the five
-    ∷ example (map (λ f. flagged f 0 0 1) (0 ∷ 1 ∷ 4 ∷ 5 ∷ [])) (None ∷ None ∷ None ∷ None ∷ [])
+    ∷ example (map (λ f. flagged f 0 0 1) (0 ∷ 1 ∷ 4 ∷ 5 ∷ [])) ((Ok tt) ∷ (Ok tt) ∷ (Ok tt) ∷ (Ok tt) ∷ [])
     ∷ example (map (λ f. flagged f 0 0 1) (8 ∷ 0x8000 ∷ 0x40000 ∷ 0x80000000 ∷ []))
-    (Found Flags ∷ Found Flags ∷ Found Flags ∷ Found Flags ∷ [])
-    ∷ example (map (λ f. flagged f 1 2 1) (0x30007 ∷ 0x3000f ∷ [])) (None ∷ Found Flags ∷ [])
+    (Err Flags ∷ Err Flags ∷ Err Flags ∷ Err Flags ∷ [])
+    ∷ example (map (λ f. flagged f 1 2 1) (0x30007 ∷ 0x3000f ∷ [])) ((Ok tt) ∷ Err Flags ∷ [])
     -- compression is 1 where 0x10000 is set, else 0
-    ∷ example (map (λ c. flagged 0x10000 c 0 1) (0 ∷ 1 ∷ 2 ∷ 3 ∷ [])) (Found Flags ∷ None ∷ Found Flags ∷ Found Flags ∷ [])
-    ∷ example (map (λ c. flagged 0 c 0 1) (0 ∷ 1 ∷ 2 ∷ [])) (None ∷ Found Flags ∷ Found Flags ∷ [])
+    ∷ example (map (λ c. flagged 0x10000 c 0 1) (0 ∷ 1 ∷ 2 ∷ 3 ∷ [])) (Err Flags ∷ (Ok tt) ∷ Err Flags ∷ Err Flags ∷ [])
+    ∷ example (map (λ c. flagged 0 c 0 1) (0 ∷ 1 ∷ 2 ∷ [])) ((Ok tt) ∷ Err Flags ∷ Err Flags ∷ [])
     -- 0x20000 needs 0x10000
-    ∷ example (flagged 0x20000 0 0 1 ∷ flagged 0x30000 1 0 1 ∷ []) (Found Flags ∷ None ∷ [])
+    ∷ example (flagged 0x20000 0 0 1 ∷ flagged 0x30000 1 0 1 ∷ []) (Err Flags ∷ (Ok tt) ∷ [])
     -- 0x2 needs a redundant directory
-    ∷ example (map (λ r. flagged 2 0 r 1) (0 ∷ 1 ∷ [])) (Found Flags ∷ None ∷ [])
+    ∷ example (map (λ r. flagged 2 0 r 1) (0 ∷ 1 ∷ [])) (Err Flags ∷ (Ok tt) ∷ [])
     -- version 1 has no 0x4
-    ∷ example (map (λ v. kdmv_fault (fields v 4 16 8 512 0 1 true 0)) (1 ∷ 2 ∷ 3 ∷ [])) (Found Flags ∷ None ∷ None ∷ [])
+    ∷ example (map (λ v. kdmv_fault (fields v 4 16 8 512 0 1 true 0)) (1 ∷ 2 ∷ 3 ∷ [])) (Err Flags ∷ (Ok tt) ∷ (Ok tt) ∷ [])
     -- a directory at the end needs 0x20000
-    ∷ example (map (λ d. flagged 0x10000 1 0 d) (0xffffffffffffffff ∷ 0xfffffffffffffffe ∷ [])) (Found Flags ∷ None ∷ [])
-    ∷ example (flagged 0x30000 1 0 0xffffffffffffffff ∷ []) (None ∷ [])
+    ∷ example (map (λ d. flagged 0x10000 1 0 d) (0xffffffffffffffff ∷ 0xfffffffffffffffe ∷ [])) (Err Flags ∷ (Ok tt) ∷ [])
+    ∷ example (flagged 0x30000 1 0 0xffffffffffffffff ∷ []) ((Ok tt) ∷ [])
     -- capacity 1 to 2^31
     ∷ example (map (λ c. kdmv_fault (fields 1 0 c 8 512 0 1 true 0)) (0 ∷ 1 ∷ 0x80000000 ∷ 0x80000001 ∷ []))
-    (Found Sizes ∷ None ∷ None ∷ Found Sizes ∷ [])
+    (Err Sizes ∷ (Ok tt) ∷ (Ok tt) ∷ Err Sizes ∷ [])
     -- grain size a power of two, 8 to 2,048
     ∷ example (map (λ g. kdmv_fault (fields 1 0 16 g 512 0 1 true 0)) (0 ∷ 4 ∷ 7 ∷ 8 ∷ 9 ∷ 12 ∷ []))
-    (Found Sizes ∷ Found Sizes ∷ Found Sizes ∷ None ∷ Found Sizes ∷ Found Sizes ∷ [])
+    (Err Sizes ∷ Err Sizes ∷ Err Sizes ∷ (Ok tt) ∷ Err Sizes ∷ Err Sizes ∷ [])
     ∷ example (map (λ g. kdmv_fault (fields 1 0 16 g 512 0 1 true 0)) (16 ∷ 1024 ∷ 2048 ∷ 2049 ∷ 4096 ∷ []))
-    (None ∷ None ∷ None ∷ Found Sizes ∷ Found Sizes ∷ [])
+    ((Ok tt) ∷ (Ok tt) ∷ (Ok tt) ∷ Err Sizes ∷ Err Sizes ∷ [])
     -- entries per table 512
     ∷ example (map (λ n. kdmv_fault (fields 1 0 16 8 n 0 1 true 0)) (511 ∷ 512 ∷ 513 ∷ []))
-    (Found Sizes ∷ None ∷ Found Sizes ∷ [])
+    (Err Sizes ∷ (Ok tt) ∷ Err Sizes ∷ [])
     -- the order
     ∷ example (kdmv_fault (fields 0 9 0 8 512 0 1 false 0) ∷ kdmv_fault (fields 1 9 0 8 512 0 1 false 0) ∷ [])
-    (Found Version ∷ Found Newline ∷ [])
-    ∷ example (kdmv_fault (fields 1 9 0 8 512 0 1 true 0) ∷ []) (Found Flags ∷ [])
+    (Err Version ∷ Err Newline ∷ [])
+    ∷ example (kdmv_fault (fields 1 9 0 8 512 0 1 true 0) ∷ []) (Err Flags ∷ [])
     ∷ []
 
 -- ---- 3 and 6 of COWD
 -- version, capacity, grain size, stored count
-abbrev cowd_rule : ℕ → ℕ → ℕ → ℕ → Fault
+abbrev cowd_rule : ℕ → ℕ → ℕ → ℕ → Result (Unit {0}) Refusal
 cowd_rule version capacity grain_size stored =
     cowd_fault
     (record {
@@ -126,21 +125,21 @@ cowd_rule version capacity grain_size stored =
       dirty = 1;
     })
 
-abbrev cowd_rules : List (Example (List Fault))
+abbrev cowd_rules : List (Example (List (Result (Unit {0}) Refusal)))
 cowd_rules =
     -- version is 1
-    example (map (λ v. cowd_rule v 1 1 1) (0 ∷ 1 ∷ 2 ∷ [])) (Found Version ∷ None ∷ Found Version ∷ [])
+    example (map (λ v. cowd_rule v 1 1 1) (0 ∷ 1 ∷ 2 ∷ [])) (Err Version ∷ (Ok tt) ∷ Err Version ∷ [])
     -- capacity 1 to 2^31
     ∷ example (map (λ c. cowd_rule 1 c 2048 257) (0 ∷ 1 ∷ 0x80000000 ∷ 0x80000001 ∷ []))
-    (Found Sizes ∷ None ∷ None ∷ Found Sizes ∷ [])
+    (Err Sizes ∷ (Ok tt) ∷ (Ok tt) ∷ Err Sizes ∷ [])
     -- grain size a power of two, 1 to 2,048
-    ∷ example (map (λ g. cowd_rule 1 1 g 1) (0 ∷ 1 ∷ 2 ∷ 3 ∷ 4 ∷ [])) (Found Sizes ∷ None ∷ None ∷ Found Sizes ∷ None ∷ [])
-    ∷ example (map (λ g. cowd_rule 1 1 g 1) (2048 ∷ 2049 ∷ 4096 ∷ [])) (None ∷ Found Sizes ∷ Found Sizes ∷ [])
+    ∷ example (map (λ g. cowd_rule 1 1 g 1) (0 ∷ 1 ∷ 2 ∷ 3 ∷ 4 ∷ [])) (Err Sizes ∷ (Ok tt) ∷ (Ok tt) ∷ Err Sizes ∷ (Ok tt) ∷ [])
+    ∷ example (map (λ g. cowd_rule 1 1 g 1) (2048 ∷ 2049 ∷ 4096 ∷ [])) ((Ok tt) ∷ Err Sizes ∷ Err Sizes ∷ [])
     -- the stored count at least n, which is 1 for 4,096 grains and 2 for 4,097
-    ∷ example (map (λ n. cowd_rule 1 4096 1 n) (0 ∷ 1 ∷ [])) (Found Sizes ∷ None ∷ [])
-    ∷ example (map (λ n. cowd_rule 1 4097 1 n) (1 ∷ 2 ∷ 3 ∷ [])) (Found Sizes ∷ None ∷ None ∷ [])
+    ∷ example (map (λ n. cowd_rule 1 4096 1 n) (0 ∷ 1 ∷ [])) (Err Sizes ∷ (Ok tt) ∷ [])
+    ∷ example (map (λ n. cowd_rule 1 4097 1 n) (1 ∷ 2 ∷ 3 ∷ [])) (Err Sizes ∷ (Ok tt) ∷ (Ok tt) ∷ [])
     -- the order
-    ∷ example (cowd_rule 0 0 1 1 ∷ []) (Found Version ∷ [])
+    ∷ example (cowd_rule 0 0 1 1 ∷ []) (Err Version ∷ [])
     ∷ []
 
 -- the newline bytes, each of which counts
@@ -188,11 +187,11 @@ cowd_full =
     ∷ replicate 396 0x88
     ∷ [])
 
-abbrev told : List (Example HeaderAnswer)
+abbrev told : List (Example (Result Header Refusal))
 told =
     -- n is 2^31 / 2^16, and the directory takes 256 sectors
     example (judge kdmv_full)
-    (Known
+    (Ok
     (record {
       cowd = false;
       capacity = 0x7fffffff;
@@ -212,7 +211,7 @@ told =
     }))
     -- the directory takes the sectors of its stored count, 0x61626364 / 128 rounded up
     ∷ example (judge_of Either cowd_full)
-    (Known
+    (Ok
     (record {
       cowd = true;
       capacity = 0x80000000;

@@ -17,16 +17,16 @@ use Rattle.format.specs.declared.Header.{Header}
 use Rattle.format.specs.declared.Source.TheVariants.{Absent, Zero, Stored, Packed}
 use Rattle.format.specs.declared.MisplacedPart.TheVariants.{Directory, PrimaryTable}
 use Rattle.format.specs.declared.Refusal.TheVariants.{Misplaced, GrainPast, Marker, SectorPast}
-use Rattle.format.specs.declared.HeaderAnswer.TheVariants.{Known}
-use Rattle.format.specs.declared.LookupAnswer.{LookupAnswer}
-use Rattle.format.specs.declared.LookupAnswer.TheVariants.{Found, Refused}
 use Rattle.format.specs.declared.numbers.Part.{Part}
 use Rattle.examples.specs.Examples.{Example, example, Hold}
 use Rattle.examples.specs.Images.{small, packed, sized_header, plain_header, stream_header}
 use Rattle.examples.proofs.ExamplesCheck.{packed_known}
+use Rattle.std.specs.Prelude.{Result, Ok, Err}
+use Rattle.format.specs.declared.Source.{Source}
+use Rattle.format.specs.declared.Refusal.{Refusal}
 
 -- the lookup in an image whose header is known
-looked : (s : List ℕ) (h : Header) (x : ℕ) → judge s ≡ Known h → sector_lookup s x ≡ lookup_in s h x
+looked : (s : List ℕ) (h : Header) (x : ℕ) → judge s ≡ Ok h → sector_lookup s x ≡ lookup_in s h x
 unfolding lookup_from
 looked s h x e = ap (lookup_from s x) e
 
@@ -36,17 +36,17 @@ packed_looked : (first size next next_size x : ℕ) → sector_lookup (packed fi
 packed_looked first size next next_size x = looked _ _ x (packed_known first size next next_size)
 
 pub streams_looked :
-    (sector_lookup (packed 0 500 8 501) 0 ≡ Found (Packed 6 500 0))
-    × (sector_lookup (packed 0 500 8 501) 7 ≡ Found (Packed 6 500 7))
-    × (sector_lookup (packed 0 500 8 501) 15 ≡ Found (Packed 7 501 7))
+    (sector_lookup (packed 0 500 8 501) 0 ≡ Ok (Packed 6 500 0))
+    × (sector_lookup (packed 0 500 8 501) 7 ≡ Ok (Packed 6 500 7))
+    × (sector_lookup (packed 0 500 8 501) 15 ≡ Ok (Packed 7 501 7))
     -- 20: capacity is 16
-    × (sector_lookup (packed 0 500 8 501) 16 ≡ Refused SectorPast)
+    × (sector_lookup (packed 0 500 8 501) 16 ≡ Err SectorPast)
     -- 10 of the sector's own grain, the other's marker being right or not
-    × (sector_lookup (packed 1 500 8 0) 0 ≡ Refused (Marker 0))
-    × (sector_lookup (packed 1 500 8 0) 8 ≡ Refused (Marker 1))
+    × (sector_lookup (packed 1 500 8 0) 0 ≡ Err (Marker 0))
+    × (sector_lookup (packed 1 500 8 0) 8 ≡ Err (Marker 1))
     -- 9 comes first: grain 1 past F by one byte, and not past it
-    × (sector_lookup (packed 0 500 9 2549) 8 ≡ Refused (GrainPast 1))
-    × (sector_lookup (packed 0 500 9 2548) 8 ≡ Refused (Marker 1))
+    × (sector_lookup (packed 0 500 9 2549) 8 ≡ Err (GrainPast 1))
+    × (sector_lookup (packed 0 500 9 2548) 8 ≡ Err (Marker 1))
 unfolding pick le_at le_bytes over zeros meaning grain_sectors marker_broken grain_source lookup_grain lookup_entry lookup_table lookup_in
 streams_looked = (
   packed_looked 0 500 8 501 0,
@@ -67,30 +67,30 @@ small_looked zeroth first x = looked _ (sized_header 16 8) x refl
 
 pub small_lookups :
     -- stored at entry + o; absent; zero
-    (sector_lookup (small 2 0 0 4) 7 ≡ Found (Stored 9))
-    × (sector_lookup (small 2 0 0 4) 8 ≡ Found Absent)
-    × (sector_lookup (small 2 1 0 4) 8 ≡ Found Zero)
+    (sector_lookup (small 2 0 0 4) 7 ≡ Ok (Stored 9))
+    × (sector_lookup (small 2 0 0 4) 8 ≡ Ok Absent)
+    × (sector_lookup (small 2 1 0 4) 8 ≡ Ok Zero)
     -- 9 by a sector
-    × (sector_lookup (small 2 3 0 4) 8 ≡ Refused (GrainPast 1))
+    × (sector_lookup (small 2 3 0 4) 8 ≡ Err (GrainPast 1))
 unfolding pick le_at le_bytes zeros meaning grain_sectors grain_source lookup_grain lookup_entry lookup_table lookup_in
 small_lookups = (small_looked 2 0 7, small_looked 2 0 8, small_looked 2 1 8, small_looked 2 3 8)
 
 -- the lookup of sector x by a header whose directory stands at a sector
-abbrev at : ℕ → List ℕ → ℕ → LookupAnswer
+abbrev at : ℕ → List ℕ → ℕ → Result Source Refusal
 at directory s x = lookup_in s (plain_header 0 1 directory 99) x
 
-abbrev lookups : List (Example LookupAnswer)
+abbrev lookups : List (Example (Result Source Refusal))
 lookups =
     -- a directory entry of 0, and of 1 where it means zeros, says it of all its grains; descriptor and redundant directory are
     -- not judged
-    example (at 1 (zeros 1024) 0) (Found Absent)
-    ∷ example (at 1 (zeros 512 ++ le_bytes 4 1 ++ zeros 508) 15) (Found Zero)
+    example (at 1 (zeros 1024) 0) (Ok Absent)
+    ∷ example (at 1 (zeros 512 ++ le_bytes 4 1 ++ zeros 508) 15) (Ok Zero)
     -- 8: directory sector 0, the directory past F, the table past F by a sector; 20 comes first
-    ∷ example (at 0 (zeros 1024) 15) (Refused (Misplaced Directory))
-    ∷ example (at 2 (zeros 1024) 15) (Refused (Misplaced Directory))
-    ∷ example (at 0 (zeros 1024) 16) (Refused SectorPast)
-    ∷ example (at 1 (zeros 512 ++ le_bytes 4 2 ++ zeros 2556) 0) (Found Absent)
-    ∷ example (at 1 (zeros 512 ++ le_bytes 4 3 ++ zeros 2556) 0) (Refused (Misplaced PrimaryTable))
+    ∷ example (at 0 (zeros 1024) 15) (Err (Misplaced Directory))
+    ∷ example (at 2 (zeros 1024) 15) (Err (Misplaced Directory))
+    ∷ example (at 0 (zeros 1024) 16) (Err SectorPast)
+    ∷ example (at 1 (zeros 512 ++ le_bytes 4 2 ++ zeros 2556) 0) (Ok Absent)
+    ∷ example (at 1 (zeros 512 ++ le_bytes 4 3 ++ zeros 2556) 0) (Err (Misplaced PrimaryTable))
     ∷ []
 
 pub lookups_hold : Hold lookups
@@ -103,11 +103,11 @@ part at length = record { at = at; length = length }
 
 abbrev parts : List (Example Part)
 parts =
-    example (answer_part (Found Absent)) (part 0 0)
-    ∷ example (answer_part (Found Zero)) (part 0 0)
-    ∷ example (answer_part (Found (Stored 9))) (part 4608 512)
-    ∷ example (answer_part (Found (Packed 6 500 7))) (part 3084 500)
-    ∷ example (answer_part (Refused (GrainPast 3))) (part 0 0)
+    example (answer_part (Ok Absent)) (part 0 0)
+    ∷ example (answer_part (Ok Zero)) (part 0 0)
+    ∷ example (answer_part (Ok (Stored 9))) (part 4608 512)
+    ∷ example (answer_part (Ok (Packed 6 500 7))) (part 3084 500)
+    ∷ example (answer_part (Err (GrainPast 3))) (part 0 0)
     ∷ []
 
 pub parts_hold : Hold parts

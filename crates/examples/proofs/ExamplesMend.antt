@@ -19,28 +19,28 @@ use Rattle.format.specs.Mend.{mended_if_room, mend_good, mend_from, mend, after_
 use Rattle.format.specs.declared.Side.TheVariants.{Primary, Redundant}
 use Rattle.format.specs.declared.MisplacedPart.TheVariants.{Descriptor}
 use Rattle.format.specs.declared.Refusal.TheVariants.{Misplaced, NotMendable, TooLittleRoom}
-use Rattle.format.specs.declared.MendAnswer.TheVariants.{Mended, Refused}
 use Rattle.examples.specs.Images.{with, doubled, differing, small, plain_header}
+use Rattle.std.specs.Prelude.{Ok, Err}
 
 pub mended_examples :
     -- the copies are alike
-    (mend doubled Primary 0 ≡ Mended 0)
+    (mend doubled Primary 0 ≡ Ok 0)
     -- one entry differs, for which three words are needed
-    × (mend differing Primary 3 ≡ Mended 1)
-    × (mend differing Redundant 3 ≡ Mended 1)
-    × (mend differing Primary 2 ≡ Refused TooLittleRoom)
+    × (mend differing Primary 3 ≡ Ok 1)
+    × (mend differing Redundant 3 ≡ Ok 1)
+    × (mend differing Primary 2 ≡ Err TooLittleRoom)
     -- 8 comes first: the descriptor has one number that is zero
-    × (mend (with 36 8 0 differing) Primary 3 ≡ Refused (Misplaced Descriptor))
+    × (mend (with 36 8 0 differing) Primary 3 ≡ Err (Misplaced Descriptor))
     -- 40: there is no redundant directory
-    × (mend (small 0 0 0 0) Primary 3 ≡ Refused NotMendable)
+    × (mend (small 0 0 0 0) Primary 3 ≡ Err NotMendable)
     -- a table in the one directory, 1 in the other
-    × (mend (with 1024 4 1 doubled) Primary 3 ≡ Refused NotMendable)
+    × (mend (with 1024 4 1 doubled) Primary 3 ≡ Err NotMendable)
     -- one table in both
-    × (mend (with 1024 4 3 doubled) Primary 3 ≡ Refused NotMendable)
+    × (mend (with 1024 4 3 doubled) Primary 3 ≡ Err NotMendable)
     -- the primary's grain 1 stands on the primary's table, the redundant's is absent; 40 before 21
-    × (mend (with 1540 4 4 doubled) Primary 3 ≡ Refused NotMendable)
-    × (mend (with 1540 4 4 doubled) Primary 0 ≡ Refused NotMendable)
-    × (mend (with 1540 4 4 doubled) Redundant 3 ≡ Mended 1)
+    × (mend (with 1540 4 4 doubled) Primary 3 ≡ Err NotMendable)
+    × (mend (with 1540 4 4 doubled) Primary 0 ≡ Err NotMendable)
+    × (mend (with 1540 4 4 doubled) Redundant 3 ≡ Ok 1)
 unfolding pick power_up_to le_at le_bytes same_at over zeros rows grains directory_entries directory_sectors kdmv_fields kdmv_fault kdmv_header directory_of header_of unless_fault with_footer judge_kdmv judge_of meaning in_table entry_of_grain grain_sectors any_below if_there named redundant_tables areas runs_past shares shares_any meet misplaced lowest_misplaced lowest_from copy_differs copies_differ unless_grain check_apart check_copies check_grains check_layout check_from from_good over_table mended_below kinds_differ is_refused unmendable change_of mended_if_room mend_good mend_from
 mended_examples = (refl, refl, refl, refl, refl, refl, refl, refl, refl, refl, refl)
 

@@ -21,10 +21,10 @@ use Rattle.format.specs.Moves.{says_zero, move_from, to_kdmv, to_cowd}
 use Rattle.format.specs.declared.Kind.TheVariants.{Kdmv, Cowd}
 use Rattle.format.specs.declared.Header.{Header}
 use Rattle.format.specs.declared.Refusal.TheVariants.{TooShort, Magic, TooLittleRoom, NotCollapsible, StillOpen, NotMovable}
-use Rattle.format.specs.declared.CollapseAnswer.{CollapseAnswer}
-use Rattle.format.specs.declared.CollapseAnswer.TheVariants.{Written, Refused}
 use Rattle.examples.specs.Examples.{Example, example, Hold}
 use Rattle.examples.specs.Images.{joined, small, sized_header, open_header, stream_header}
+use Rattle.std.specs.Prelude.{Result, Ok, Err}
+use Rattle.format.specs.declared.Refusal.{Refusal}
 
 -- grain 1 is stored, all others absent
 abbrev one : Map
@@ -38,32 +38,32 @@ cowd size n =
     cowd_header (record { version = 1; capacity = 16; grain_size = size; directory = 4; directory_entries = 1; dirty = n })
 
 -- ---- answers
-abbrev answers : List (Example CollapseAnswer)
+abbrev answers : List (Example (Result ℕ Refusal))
 answers =
     -- the image's check comes first
-    example (to_kdmv [] 0) (Refused TooShort)
-    ∷ example (to_cowd (zeros 4) 0) (Refused Magic)
+    example (to_kdmv [] 0) (Err TooShort)
+    ∷ example (to_cowd (zeros 4) 0) (Err Magic)
     -- 23: the kind itself, or compressed; it comes before 27
-    ∷ example (move_from Kdmv [] (sized_header 16 8) one 99999) (Refused NotCollapsible)
-    ∷ example (move_from Kdmv [] (open_header 16 8 1) one 99999) (Refused NotCollapsible)
-    ∷ example (move_from Cowd [] (cowd 8 1) one 99999) (Refused NotCollapsible)
-    ∷ example (move_from Cowd [] (stream_header 1) one 99999) (Refused NotCollapsible)
+    ∷ example (move_from Kdmv [] (sized_header 16 8) one 99999) (Err NotCollapsible)
+    ∷ example (move_from Kdmv [] (open_header 16 8 1) one 99999) (Err NotCollapsible)
+    ∷ example (move_from Cowd [] (cowd 8 1) one 99999) (Err NotCollapsible)
+    ∷ example (move_from Cowd [] (stream_header 1) one 99999) (Err NotCollapsible)
     -- 27: any number but 0; it comes before 44
-    ∷ example (move_from Kdmv [] (cowd 8 1) one 99999) (Refused StillOpen)
-    ∷ example (move_from Kdmv [] (cowd 4 2) one 0) (Refused StillOpen)
-    ∷ example (move_from Cowd (small 1 0 0 0) (open_header 16 8 255) one 99999) (Refused StillOpen)
+    ∷ example (move_from Kdmv [] (cowd 8 1) one 99999) (Err StillOpen)
+    ∷ example (move_from Kdmv [] (cowd 4 2) one 0) (Err StillOpen)
+    ∷ example (move_from Cowd (small 1 0 0 0) (open_header 16 8 255) one 99999) (Err StillOpen)
     -- 44: a grain size under 8; any zero grain on the way to COWD, the last one too; it comes before 21
-    ∷ example (move_from Kdmv [] (cowd 4 0) one 0) (Refused NotMovable)
-    ∷ example (move_from Kdmv [] (cowd 1 0) one 99999) (Refused NotMovable)
-    ∷ example (move_from Cowd (small 1 0 0 0) (sized_header 16 8) one 0) (Refused NotMovable)
-    ∷ example (move_from Cowd (small 0 1 0 0) (sized_header 16 8) one 99999) (Refused NotMovable)
+    ∷ example (move_from Kdmv [] (cowd 4 0) one 0) (Err NotMovable)
+    ∷ example (move_from Kdmv [] (cowd 1 0) one 99999) (Err NotMovable)
+    ∷ example (move_from Cowd (small 1 0 0 0) (sized_header 16 8) one 0) (Err NotMovable)
+    ∷ example (move_from Cowd (small 0 1 0 0) (sized_header 16 8) one 99999) (Err NotMovable)
     -- an unused entry of 1 is no zero grain
-    ∷ example (move_from Cowd (small 0 6 1 8) (sized_header 16 8) one 99999) (Written 23040)
+    ∷ example (move_from Cowd (small 0 6 1 8) (sized_header 16 8) one 99999) (Ok 23040)
     -- 21: as KDMV V is 8, as COWD 37, and one grain is stored
-    ∷ example (move_from Kdmv [] (cowd 8 0) one 8191) (Refused TooLittleRoom)
-    ∷ example (move_from Kdmv [] (cowd 8 0) one 8192) (Written 8192)
-    ∷ example (move_from Cowd (small 0 6 0 8) (sized_header 16 8) one 23039) (Refused TooLittleRoom)
-    ∷ example (move_from Cowd (small 0 6 0 8) (sized_header 16 8) one 23040) (Written 23040)
+    ∷ example (move_from Kdmv [] (cowd 8 0) one 8191) (Err TooLittleRoom)
+    ∷ example (move_from Kdmv [] (cowd 8 0) one 8192) (Ok 8192)
+    ∷ example (move_from Cowd (small 0 6 0 8) (sized_header 16 8) one 23039) (Err TooLittleRoom)
+    ∷ example (move_from Cowd (small 0 6 0 8) (sized_header 16 8) one 23040) (Ok 23040)
     ∷ []
 
 pub moves_answered : Hold answers

@@ -17,39 +17,41 @@ use Rattle.format.specs.Answers.{number, place}
 use Rattle.format.specs.declared.Kind.TheVariants.{Kdmv}
 use Rattle.format.specs.declared.Header.{Header}
 use Rattle.format.specs.declared.Refusal.TheVariants.{TooShort, Magic, NotCollapsible, StillOpen, NotNormal, ProfileSizes}
-use Rattle.format.specs.declared.CheckAnswer.{CheckAnswer}
-use Rattle.format.specs.declared.CheckAnswer.TheVariants.{Accepted, Refused}
 use Rattle.examples.specs.Examples.{Example, example, Hold}
 use Rattle.examples.specs.Images.{sized_header, open_header, stream_header}
+use Rattle.std.specs.Prelude.{Result, Err}
+use Rattle.format.specs.declared.Shape.{Shape}
+use Rattle.format.specs.declared.Refusal.{Refusal}
+use Rattle.format.specs.AnswerParts.{accepted_as}
 
 -- ---- answers
-abbrev answers : List (Example CheckAnswer)
+abbrev answers : List (Example (Result Shape Refusal))
 answers =
     -- the image's check comes first
-    example (profile []) (Refused TooShort)
-    ∷ example (profile (zeros 4)) (Refused Magic)
-    ∷ example (profile_if_accepted (Refused Magic) (Accepted 128 128)) (Refused Magic)
-    ∷ example (profile_if_accepted (Accepted 128 128) (Refused ProfileSizes)) (Refused ProfileSizes)
+    example (profile []) (Err TooShort)
+    ∷ example (profile (zeros 4)) (Err Magic)
+    ∷ example (profile_if_accepted (Err Magic) (accepted_as 128 128)) (Err Magic)
+    ∷ example (profile_if_accepted (accepted_as 128 128) (Err ProfileSizes)) (Err ProfileSizes)
     -- 23: compressed; it comes before 27, 47 and 42
-    ∷ example (profile_from (stream_header 1) [] (7 ∷ [])) (Refused NotCollapsible)
+    ∷ example (profile_from (stream_header 1) [] (7 ∷ [])) (Err NotCollapsible)
     -- 27: any number but 0; it comes before 47 and 42
-    ∷ example (profile_from (open_header 128 128 1) (7 ∷ []) (7 ∷ [])) (Refused StillOpen)
-    ∷ example (profile_from (open_header 129 64 255) [] (7 ∷ [])) (Refused StillOpen)
+    ∷ example (profile_from (open_header 128 128 1) (7 ∷ []) (7 ∷ [])) (Err StillOpen)
+    ∷ example (profile_from (open_header 129 64 255) [] (7 ∷ [])) (Err StillOpen)
     -- 47: another grain size, a capacity that is no multiple of 128, or both; it comes before 42
-    ∷ example (profile_from (sized_header 128 64) (7 ∷ []) (7 ∷ [])) (Refused ProfileSizes)
-    ∷ example (profile_from (sized_header 256 256) (7 ∷ []) (7 ∷ [])) (Refused ProfileSizes)
-    ∷ example (profile_from (sized_header 127 128) (7 ∷ []) (7 ∷ [])) (Refused ProfileSizes)
-    ∷ example (profile_from (sized_header 129 128) (7 ∷ []) (7 ∷ [])) (Refused ProfileSizes)
-    ∷ example (profile_from (sized_header 64 128) (7 ∷ []) (7 ∷ [])) (Refused ProfileSizes)
-    ∷ example (profile_from (sized_header 129 64) [] (7 ∷ [])) (Refused ProfileSizes)
+    ∷ example (profile_from (sized_header 128 64) (7 ∷ []) (7 ∷ [])) (Err ProfileSizes)
+    ∷ example (profile_from (sized_header 256 256) (7 ∷ []) (7 ∷ [])) (Err ProfileSizes)
+    ∷ example (profile_from (sized_header 127 128) (7 ∷ []) (7 ∷ [])) (Err ProfileSizes)
+    ∷ example (profile_from (sized_header 129 128) (7 ∷ []) (7 ∷ [])) (Err ProfileSizes)
+    ∷ example (profile_from (sized_header 64 128) (7 ∷ []) (7 ∷ [])) (Err ProfileSizes)
+    ∷ example (profile_from (sized_header 129 64) [] (7 ∷ [])) (Err ProfileSizes)
     -- 42: the first byte that differs, or the shorter length
-    ∷ example (profile_from (sized_header 128 128) (7 ∷ 9 ∷ []) (7 ∷ 8 ∷ [])) (Refused (NotNormal 1))
-    ∷ example (profile_from (sized_header 128 128) (7 ∷ 9 ∷ []) (7 ∷ [])) (Refused (NotNormal 1))
-    ∷ example (profile_from (sized_header 128 128) (7 ∷ []) (7 ∷ 9 ∷ [])) (Refused (NotNormal 1))
-    ∷ example (profile_from (sized_header 0x80000000 128) [] (0 ∷ [])) (Refused (NotNormal 0))
+    ∷ example (profile_from (sized_header 128 128) (7 ∷ 9 ∷ []) (7 ∷ 8 ∷ [])) (Err (NotNormal 1))
+    ∷ example (profile_from (sized_header 128 128) (7 ∷ 9 ∷ []) (7 ∷ [])) (Err (NotNormal 1))
+    ∷ example (profile_from (sized_header 128 128) (7 ∷ []) (7 ∷ 9 ∷ [])) (Err (NotNormal 1))
+    ∷ example (profile_from (sized_header 0x80000000 128) [] (0 ∷ [])) (Err (NotNormal 0))
     -- met
-    ∷ example (profile_from (sized_header 128 128) (7 ∷ 9 ∷ []) (7 ∷ 9 ∷ [])) (Accepted 128 128)
-    ∷ example (profile_from (sized_header 0x80000000 128) (7 ∷ []) (7 ∷ [])) (Accepted 0x80000000 128)
+    ∷ example (profile_from (sized_header 128 128) (7 ∷ 9 ∷ []) (7 ∷ 9 ∷ [])) (accepted_as 128 128)
+    ∷ example (profile_from (sized_header 0x80000000 128) (7 ∷ []) (7 ∷ [])) (accepted_as 0x80000000 128)
     ∷ []
 
 pub profiles_answered : Hold answers

@@ -20,9 +20,10 @@ use Rattle.format.specs.Chain.{lengths_sum}
 use Rattle.format.specs.Survey.{entry_kind, count_of, row_from, row_words, rows_below, tally_below, add_row, totals_below}
 use Rattle.format.specs.Survey.{surveyed_if_room, survey, after_survey}
 use Rattle.format.specs.declared.Refusal.TheVariants.{TooLittleRoom, LayerLengths}
-use Rattle.format.specs.declared.SurveyAnswer.{SurveyAnswer}
-use Rattle.format.specs.declared.SurveyAnswer.TheVariants.{Surveyed, Refused}
 use Rattle.examples.specs.Images.{small}
+use Rattle.std.specs.Prelude.{Result, Ok, Err}
+use Rattle.format.specs.declared.Totals.{Totals}
+use Rattle.format.specs.declared.Refusal.{Refusal}
 
 -- ---- an image of two grains, the one stored and the other zero, then one of no bytes, which is refused 1
 abbrev images : List ℕ
@@ -41,23 +42,23 @@ unfolding pick rows judge_of check_from header_of same_at lengths_sum count_of r
 tally_three = refl
 
 -- ---- the answer
-abbrev asked : List ℕ → ℕ → ℕ → SurveyAnswer
+abbrev asked : List ℕ → ℕ → ℕ → Result Totals Refusal
 asked l rows_room tally_room = survey [] l rows_room tally_room
 
 pub answers :
-    (asked [] 6 63 ≡ Refused LayerLengths)
-    × (asked (replicate 1025 0) 6150 63 ≡ Refused LayerLengths)
-    × (asked (1 ∷ []) 6 63 ≡ Refused LayerLengths)
-    × (asked (0 ∷ []) 5 63 ≡ Refused TooLittleRoom)
-    × (asked (0 ∷ []) 6 62 ≡ Refused TooLittleRoom)
-    × (asked (0 ∷ []) 6 63 ≡ Surveyed (record { stored = 0; zero = 0; absent = 0; packed = 0 }))
+    (asked [] 6 63 ≡ Err LayerLengths)
+    × (asked (replicate 1025 0) 6150 63 ≡ Err LayerLengths)
+    × (asked (1 ∷ []) 6 63 ≡ Err LayerLengths)
+    × (asked (0 ∷ []) 5 63 ≡ Err TooLittleRoom)
+    × (asked (0 ∷ []) 6 62 ≡ Err TooLittleRoom)
+    × (asked (0 ∷ []) 6 63 ≡ Ok (record { stored = 0; zero = 0; absent = 0; packed = 0 }))
 unfolding pick judge_of check_from header_of same_at lengths_sum count_of row_from add_row totals_below surveyed_if_room survey
 answers = (refl, refl, refl, refl, refl, refl)
 
 -- ---- a list: words from its start on, and the rest as it was; on a refusal all as it was
 pub list_after_lem :
-    (after_survey (Surveyed (record { stored = 0; zero = 0; absent = 0; packed = 0 })) (1 ∷ 2 ∷ []) (9 ∷ 9 ∷ 9 ∷ [])
+    (after_survey (Ok (record { stored = 0; zero = 0; absent = 0; packed = 0 })) (1 ∷ 2 ∷ []) (9 ∷ 9 ∷ 9 ∷ [])
     ≡ 1 ∷ 2 ∷ 9 ∷ [])
-    × (after_survey (Refused TooLittleRoom) (1 ∷ 2 ∷ []) (9 ∷ []) ≡ 9 ∷ [])
+    × (after_survey (Err TooLittleRoom) (1 ∷ 2 ∷ []) (9 ∷ []) ≡ 9 ∷ [])
 unfolding over after_survey
 list_after_lem = (refl, refl)

@@ -25,11 +25,12 @@ use Rattle.format.specs.Collapse.{if_accepted, written_if_room, normal_from, nor
 use Rattle.format.specs.Answers.{verdict, located, written}
 use Rattle.format.specs.declared.Kind.TheVariants.{Kdmv}
 use Rattle.format.specs.declared.Header.{Header}
-use Rattle.format.specs.declared.CheckAnswer.{CheckAnswer}
-use Rattle.format.specs.declared.LookupAnswer.{LookupAnswer}
-use Rattle.format.specs.declared.CollapseAnswer.{CollapseAnswer}
 use Rattle.examples.specs.Images.{kdmv_sector, cowd_sectors, sample, small}
 use Rattle.laws.specs.Layers.{Every, none, more}
+use Rattle.std.specs.Prelude.{Result}
+use Rattle.format.specs.declared.Shape.{Shape}
+use Rattle.format.specs.declared.Source.{Source}
+use Rattle.format.specs.declared.Refusal.{Refusal}
 
 -- an example: the numbers that the definitions give, and those of document 01
 pub record Example : Type 0 where
@@ -45,15 +46,15 @@ abbrev counted : Header → List ℕ
 counted h = grains_of h ∷ directory_entries_of h ∷ []
 
 -- number and place, then capacity and grain size
-abbrev checked : CheckAnswer → List ℕ
+abbrev checked : Result Shape Refusal → List ℕ
 checked a = (verdict a).number ∷ (verdict a).place ∷ (verdict a).capacity ∷ (verdict a).grain_size ∷ []
 
 -- number and place, then the kind of source (0 absent, 2 stored) and its sector
-abbrev looked : LookupAnswer → List ℕ
+abbrev looked : Result Source Refusal → List ℕ
 looked a = (located a).number ∷ (located a).place ∷ (located a).kind ∷ (located a).sector ∷ []
 
 -- number and place, then the result's length
-abbrev wrote : CollapseAnswer → List ℕ
+abbrev wrote : Result ℕ Refusal → List ℕ
 wrote a = (written a).number ∷ (written a).place ∷ (written a).length ∷ []
 
 -- ---- the examples

@@ -51,11 +51,11 @@ use Rattle.descriptor.specs.declared.Found.{Found}
 use Rattle.descriptor.specs.Words.{count_before, kept, digit_value, numeral_from, numeral, to_quote_at, quoted_length}
 use Rattle.descriptor.specs.Text.{lines_from}
 use Rattle.descriptor.specs.Extents.{access_of, type_of, extent, with_type, with_sectors}
-use Rattle.descriptor.specs.Keys.{key_of, version_is, cid_is, create_type_is, value_of, with_key, split_at}
+use Rattle.descriptor.specs.Keys.{key_of, version_is, create_type_is, value_of, with_key, split_at}
 use Rattle.descriptor.specs.Line.{line_with}
-use Rattle.descriptor.specs.Descriptor.{no_extent, refused, skipped, opened, added, noted, once, judged_line, step, judged_end}
-use Rattle.descriptor.specs.Descriptor.{ended, judged, judged_text, read_text}
-use Rattle.descriptor.specs.Records.{accepted, handed, answered, descriptor_answer, found_from, find_answer}
+use Rattle.descriptor.specs.Descriptor.{no_extent, skipped, opened, added, noted, once, judged_line, step, judged_end}
+use Rattle.descriptor.specs.Descriptor.{ended, judged, judged_text, needed, accepted, read_text}
+use Rattle.descriptor.specs.Records.{answered, descriptor_answer, found_from, find_answer}
 
 -- a number of the answer is 0 for nothing and a for x, so no r is the answer for both
 pub differ : {A B : Type 0} (f : List A → B) (n : B → ℕ) (x : List A) (a : ℕ) → 1 ≤ a → n (f []) ≡ 0 → n (f x) ≡ a → (r : B)
@@ -149,14 +149,14 @@ text = ascii "# Disk DescriptorFile\nversion=1\nCID=1\nparentCID=1\ncreateType=\
 
 -- where the list has a record for it
 pub descriptor_varies : (r : Described) → ((s : List ℕ) (list : List Extent) → r ≡ descriptor_answer s list) → ⊥
-unfolding text pick same_word count_before kept digit_value numeral_from numeral to_quote_at quoted_length lines_from access_of type_of extent with_type with_sectors key_of version_is cid_is create_type_is value_of with_key split_at line_with refused skipped opened added noted once judged_line step judged_end ended judged judged_text read_text accepted handed answered
+unfolding text pick same_word count_before kept digit_value numeral_from numeral to_quote_at quoted_length lines_from access_of type_of with_type with_sectors key_of version_is create_type_is value_of with_key split_at line_with skipped opened added noted once judged_line step judged_end ended judged read_text answered
 descriptor_varies r same =
     differ (λ s. descriptor_answer s (no_extent ∷ [])) (λ (v : Described). v.extents) text 1 (omega arith) refl refl r
     (λ s. same s (no_extent ∷ []))
 
 -- its only sector is zeros, kind 1
 pub split_varies : (r : Located) → ((s files lengths : List ℕ) (x : ℕ) → r ≡ split_numbers (split s files lengths x)) → ⊥
-unfolding text pick same_word count_before kept digit_value numeral_from numeral to_quote_at quoted_length lines_from access_of type_of extent with_type with_sectors key_of version_is cid_is create_type_is value_of with_key split_at line_with refused skipped opened added noted once judged_line step judged_end ended judged judged_text read_text accepted handed found_from lengths_sum in_zero by_type in_extent at_extent split_from
+unfolding text pick same_word count_before kept digit_value numeral_from numeral to_quote_at quoted_length lines_from access_of type_of with_type with_sectors key_of version_is create_type_is value_of with_key split_at line_with skipped opened added noted once judged_line step judged_end ended judged read_text found_from lengths_sum in_zero by_type in_extent at_extent split_from
 split_varies r same =
     differ (λ s. split_numbers (split s [] (0 ∷ []) 0)) (λ (v : Located). v.kind) text 1 (omega arith) refl refl r
     (λ s. same s [] (0 ∷ []) 0)

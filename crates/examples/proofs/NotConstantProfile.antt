@@ -11,7 +11,6 @@ use Rattle.format.specs.Layout.{layout_of}
 use Rattle.format.specs.Collapse.{normal_form}
 use Rattle.format.specs.Profile.{profile_if_accepted, profile}
 use Rattle.format.specs.Answers.{verdict}
-use Rattle.format.specs.declared.CheckAnswer.{CheckAnswer}
 use Rattle.format.specs.declared.numbers.Verdict.{Verdict}
 use Rattle.laws.specs.Layers.{Layer}
 use Rattle.laws.proofs.LayoutNumbers.{Sizes}
@@ -20,6 +19,9 @@ use Rattle.laws.proofs.CollapsedImages.{normal_accepted, blank_accepted}
 use Rattle.laws.proofs.ProfileMet.{meets_profile}
 use Rattle.laws.proofs.ProfileImages.{normal_meets}
 use Rattle.examples.proofs.NotConstant.{differ}
+use Rattle.std.specs.Prelude.{Result}
+use Rattle.format.specs.declared.Shape.{Shape}
+use Rattle.format.specs.declared.Refusal.{Refusal}
 
 one_grain_lem : Sizes 128 128
 one_grain_lem = record {
@@ -36,7 +38,7 @@ nothing = refl
 
 pub profile_varies : (r : Verdict) → ((s : List ℕ) → r ≡ verdict (profile s)) → ⊥
 profile_varies =
-    let met = ap (λ (a : CheckAnswer). (verdict a).capacity) (meets_profile (normal_meets blank refl)) in
+    let met = ap (λ (a : Result Shape Refusal). (verdict a).capacity) (meets_profile (normal_meets blank refl)) in
     differ (λ s. verdict (profile s)) (λ (v : Verdict). v.capacity) (normal_form (layout_of 128 128 all_absent)) 128
     (omega arith)
     nothing (met ∙ capacity_is (normal_accepted blank))

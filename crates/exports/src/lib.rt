@@ -27,7 +27,7 @@ mod lists;
 pub extern "C" fn anhkhovet_check(image: &[u8]) -> Verdict
     ensures { result ≡ verdict (check image.now) }
 {
-    answers::verdict_of(accept::check(image))
+    Verdict::from(accept::check(image))
 }
 
 #[unsafe(no_mangle)]
@@ -35,35 +35,35 @@ pub extern "C" fn anhkhovet_check_in(image: &[u8], list: &mut [u64]) -> Marked
     ensures value { result ≡ marked_numbers (check_in image.now (length list.old)) }
     ensures list_after { list.new ≡ list_after_check image.now list.old }
 {
-    answers::marked_of(accept_in::check_in(image, &mut *list))
+    Marked::from(accept_in::check_in(image, &mut *list))
 }
 
 #[unsafe(no_mangle)]
 pub extern "C" fn anhkhovet_header(image: &[u8]) -> Head
     ensures { result ≡ header_numbers (judge image.now) }
 {
-    answers::head_of(header::judge(image))
+    Head::from(header::judge(image))
 }
 
 #[unsafe(no_mangle)]
 pub extern "C" fn anhkhovet_lookup(image: &[u8], sector: u64) -> Located
     ensures { result ≡ located (sector_lookup image.now sector) }
 {
-    answers::located_of(lookup::lookup(image, sector))
+    Located::from(lookup::lookup(image, sector))
 }
 
 #[unsafe(no_mangle)]
 pub extern "C" fn anhkhovet_steps(image: &[u8], sector: u64) -> Steps
     ensures { result ≡ lookup_steps image.now sector }
 {
-    answers::steps::steps_of(way::way(image, sector), lookup::lookup(image, sector))
+    Steps::new(way::way(image, sector), lookup::lookup(image, sector))
 }
 
 #[unsafe(no_mangle)]
 pub extern "C" fn anhkhovet_chain(layers: &[u8], lengths: &[u64], sector: u64) -> Located
     ensures { result ≡ chained (chain_lookup layers.now lengths.now sector) }
 {
-    answers::chained_of(chain::chain(layers, lengths, sector))
+    Located::from(chain::chain(layers, lengths, sector))
 }
 
 #[unsafe(no_mangle)]
@@ -78,7 +78,7 @@ pub extern "C" fn anhkhovet_frame(image: &[u8], list: &mut [u64]) -> Framed
     ensures value { result ≡ framed (frame image.now (length list.old)) }
     ensures list_after { list.new ≡ frame_list image.now list.old }
 {
-    answers::framed_of(frame::frame(image, &mut *list))
+    Framed::from(frame::frame(image, &mut *list))
 }
 
 #[unsafe(no_mangle)]
@@ -86,7 +86,7 @@ pub extern "C" fn anhkhovet_normal(image: &[u8], out: &mut [u8]) -> Written
     ensures value { result ≡ written (normal image.now (length out.old)) }
     ensures out_after { out.new ≡ normal_output image.now out.old }
 {
-    answers::written_of(collapse::normal(image, &mut *out))
+    Written::from(collapse::normal(image, &mut *out))
 }
 
 #[unsafe(no_mangle)]
@@ -94,7 +94,7 @@ pub extern "C" fn anhkhovet_collapse(lower: &[u8], upper: &[u8], out: &mut [u8])
     ensures value { result ≡ written (collapse lower.now upper.now (length out.old)) }
     ensures out_after { out.new ≡ collapse_output lower.now upper.now out.old }
 {
-    answers::written_of(collapse::collapse(lower, upper, &mut *out))
+    Written::from(collapse::collapse(lower, upper, &mut *out))
 }
 
 #[unsafe(no_mangle)]
@@ -102,7 +102,7 @@ pub extern "C" fn anhkhovet_to_kdmv(image: &[u8], out: &mut [u8]) -> Written
     ensures value { result ≡ written (to_kdmv image.now (length out.old)) }
     ensures out_after { out.new ≡ to_kdmv_output image.now out.old }
 {
-    answers::written_of(moves::to_kdmv(image, &mut *out))
+    Written::from(moves::to_kdmv(image, &mut *out))
 }
 
 #[unsafe(no_mangle)]
@@ -110,14 +110,14 @@ pub extern "C" fn anhkhovet_to_cowd(image: &[u8], out: &mut [u8]) -> Written
     ensures value { result ≡ written (to_cowd image.now (length out.old)) }
     ensures out_after { out.new ≡ to_cowd_output image.now out.old }
 {
-    answers::written_of(moves::to_cowd(image, &mut *out))
+    Written::from(moves::to_cowd(image, &mut *out))
 }
 
 #[unsafe(no_mangle)]
 pub extern "C" fn anhkhovet_profile(image: &[u8]) -> Verdict
     ensures { result ≡ verdict (profile image.now) }
 {
-    answers::verdict_of(profile::profile(image))
+    Verdict::from(profile::profile(image))
 }
 
 #[unsafe(no_mangle)]
@@ -125,5 +125,5 @@ pub extern "C" fn anhkhovet_close(image: &[u8], out: &mut [u8]) -> Closed
     ensures value { result ≡ closed_numbers (close image.now (length out.old)) }
     ensures out_after { out.new ≡ close_output image.now out.old }
 {
-    answers::repairs::closed_of(close::close(image, &mut *out))
+    Closed::from(close::close(image, &mut *out))
 }

@@ -4,7 +4,7 @@ ghost use Rattle.format.specs.Survey.{survey, survey_rows, survey_tally};
 ghost use Rattle.format.specs.Mend.{mend, mended_image, mended_list};
 ghost use Rattle.format.specs.Answers.{surveyed, side_of, mended_numbers};
 
-use format::{Mended, Surveyed};
+use format::{Mended, Side, Surveyed};
 
 #[unsafe(no_mangle)]
 pub extern "C" fn anhkhovet_survey(
@@ -20,7 +20,7 @@ pub extern "C" fn anhkhovet_survey(
         × (tally.new
         ≡ survey_tally images.now lengths.now rows.old tally.old)) }
 {
-    answers::surveyed_of(survey::survey(images, lengths, &mut *rows, &mut *tally))
+    Surveyed::from(survey::survey(images, lengths, &mut *rows, &mut *tally))
 }
 
 #[unsafe(no_mangle)]
@@ -29,6 +29,6 @@ pub extern "C" fn anhkhovet_mend(image: &mut [u8], good: u64, changes: &mut [u64
         × ((image.new ≡ mended_image image.old (side_of good) changes.old)
         × (changes.new ≡ mended_list image.old (side_of good) changes.old)) }
 {
-    let side = answers::repairs::side_of(good);
-    answers::repairs::mended_of(mend::mend(&mut *image, side, &mut *changes))
+    let side = Side::from(good);
+    Mended::from(mend::mend(&mut *image, side, &mut *changes))
 }

@@ -16,7 +16,7 @@ fn footer_differs(image: &[u8], at: usize) -> bool
     ensures { result ≡ not (same_at image.now at (bytes_at image.now 0 56)
         && same_at image.now (at + 64) (bytes_at image.now 64 448)) }
 {
-    !(base::same_at(image, at, &image[0..56]) & base::same_at(image, at + 64, &image[64..512]))
+    !(base::same_at(image, at, &image[0..56]) && base::same_at(image, at + 64, &image[64..512]))
 }
 
 // Whether one of the 512 bytes from byte `at` on is not zero.
@@ -24,35 +24,28 @@ fn sector_not_zero(image: &[u8], at: usize) -> bool
     requires { at + 512 ≤ length image.now }
     ensures { result ≡ not (same_at image.now at (zeros 512)) }
 {
-    let none = [0u8; 512];
-    !base::same_at(image, at, &none)
+    !base::same_at(image, at, &[0; 512])
 }
 
 // Whether a rule of the footer, sector F-2, or of the last sector is broken.
 pub fn footer_broken(image: &[u8]) -> bool
     ensures { result ≡ footer_broken image.now }
 {
-    if 0 < image.len() % 512 {
-        return true;
-    }
     let sectors = image.len() / 512;
-    if sectors < 4 {
+    if 0 < image.len() % 512 || sectors < 4 {
         return true;
     }
     let footer = 512 * (sectors - 2);
     let last = 512 * (sectors - 1);
-    if footer_differs(image, footer) {
+    if footer_differs(image, footer) || sector_not_zero(image, last) {
         return true;
     }
-    if sector_not_zero(image, last) {
-        return true;
-    }
-    base::u64_at(image, footer + 56) == ALL_ONES
+    base::number_at::<8>(image, footer + 56) == ALL_ONES
 }
 
 pub fn footer_directory(image: &[u8]) -> u64
     requires { 1024 ≤ length image.now }
     ensures { result ≡ footer_directory image.now }
 {
-    base::u64_at(image, 512 * (image.len() / 512 - 2) + 56)
+    base::number_at::<8>(image, 512 * (image.len() / 512 - 2) + 56)
 }

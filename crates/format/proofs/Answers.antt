@@ -17,31 +17,24 @@ use Rattle.format.specs.declared.Refusal.TheVariants.{StillOpen, NotMendable, No
 use Rattle.format.specs.declared.Refusal.TheVariants.{NotMovable, ProfileSizes}
 use Rattle.format.specs.declared.Source.{Source}
 use Rattle.format.specs.declared.Source.TheVariants.{Absent, Zero, Stored, Packed}
-use Rattle.format.specs.declared.CheckAnswer.{CheckAnswer}
-use Rattle.format.specs.declared.CheckAnswer.TheVariants.{Accepted, Refused as unaccepted}
-use Rattle.format.specs.declared.LookupAnswer.{LookupAnswer}
-use Rattle.format.specs.declared.LookupAnswer.TheVariants.{Found, Refused as not_found}
-use Rattle.format.specs.declared.ChainAnswer.{ChainAnswer}
-use Rattle.format.specs.declared.ChainAnswer.TheVariants.{Found as found_in, Refused as not_found_in}
-use Rattle.format.specs.declared.CollapseAnswer.{CollapseAnswer}
-use Rattle.format.specs.declared.CollapseAnswer.TheVariants.{Written as written_to, Refused as not_written}
-use Rattle.format.specs.declared.FrameAnswer.{FrameAnswer}
-use Rattle.format.specs.declared.FrameAnswer.TheVariants.{Listed, Refused as not_listed}
 use Rattle.format.specs.declared.MarkedAnswer.{MarkedAnswer}
-use Rattle.format.specs.declared.MendAnswer.{MendAnswer}
-use Rattle.format.specs.declared.MendAnswer.TheVariants.{Mended as mended_in, Refused as not_mended}
 use Rattle.format.specs.declared.numbers.Mended.{Mended}
-use Rattle.format.specs.declared.closing.CloseAnswer.{CloseAnswer}
-use Rattle.format.specs.declared.closing.CloseAnswer.TheVariants.{Closed as closed_in, Refused as not_closed}
 use Rattle.format.specs.declared.closing.Closed.{Closed}
 use Rattle.format.specs.declared.numbers.Verdict.{Verdict}
 use Rattle.format.specs.declared.numbers.Marked.{Marked}
 use Rattle.format.specs.declared.numbers.Located.{Located}
 use Rattle.format.specs.declared.numbers.Written.{Written}
 use Rattle.format.specs.declared.numbers.Framed.{Framed}
-use Rattle.format.specs.declared.SurveyAnswer.{SurveyAnswer}
-use Rattle.format.specs.declared.SurveyAnswer.TheVariants.{Surveyed as surveyed_in, Refused as not_surveyed}
 use Rattle.format.specs.declared.numbers.Surveyed.{Surveyed}
+use Rattle.std.specs.Prelude.{Result, Ok, Err}
+use Rattle.format.specs.declared.Shape.{Shape}
+use Rattle.format.specs.declared.LayerSource.{LayerSource}
+use Rattle.format.specs.declared.LayerRefusal.{LayerRefusal}
+use Rattle.format.specs.declared.Totals.{Totals}
+use Rattle.format.specs.declared.closing.Kept.{Kept}
+use Rattle.format.specs.AnswerParts.{accepted_as}
+use Rattle.format.specs.AnswerParts.{refused_at}
+use Rattle.format.specs.AnswerParts.{closed_as}
 
 -- what can be told back is told without loss
 lossless : {A B : Type 0} (tell : A → B) (back : B → A) → ((a : A) → back (tell a) ≡ a) → (a b : A) → tell a ≡ tell b → a ≡ b
@@ -119,15 +112,15 @@ pub refusal_alike : (r q : Refusal) → number r ≡ number q → place r ≡ pl
 refusal_alike r q e p = sym (told r).back ∙ rw (e, p) (told q).back
 
 -- ---- the check
-abbrev check_of : Verdict → CheckAnswer
-check_of v = pick (eqb v.number 0) (Accepted v.capacity v.grain_size) (unaccepted (refusal_of v.number v.place))
+abbrev check_of : Verdict → Result Shape Refusal
+check_of v = pick (eqb v.number 0) (accepted_as v.capacity v.grain_size) (Err (refusal_of v.number v.place))
 
-check_back : (a : CheckAnswer) → check_of (verdict a) ≡ a
+check_back : (a : Result Shape Refusal) → check_of (verdict a) ≡ a
 unfolding pick
-check_back (Accepted c g) = refl
-check_back (unaccepted r) = rw ((told r).some, (told r).back)
+check_back (Ok sizes) = refl
+check_back (Err r) = rw ((told r).some, (told r).back)
 
-pub check_alike : (a b : CheckAnswer) → verdict a ≡ verdict b → a ≡ b
+pub check_alike : (a b : Result Shape Refusal) → verdict a ≡ verdict b → a ≡ b
 check_alike = lossless verdict check_of check_back
 
 -- ---- the check in a lent list
@@ -152,103 +145,103 @@ source_is l =
     pick (eqb l.kind 0) Absent
     (pick (eqb l.kind 1) Zero (pick (eqb l.kind 2) (Stored l.sector) (Packed l.sector l.size l.offset)))
 
-abbrev chain_of : Located → ChainAnswer
+abbrev chain_of : Located → Result LayerSource LayerRefusal
 chain_of l =
-    pick (eqb l.number 0) (found_in (record { layer = l.layer; source = source_is l }))
-    (not_found_in l.layer (refusal_of l.number l.place))
+    pick (eqb l.number 0) (Ok (record { layer = l.layer; source = source_is l }))
+    (refused_at l.layer (refusal_of l.number l.place))
 
-found_back : (layer : ℕ) (s : Source) → chain_of (chained (found_in (record { layer = layer; source = s })))
-    ≡ found_in (record { layer = layer; source = s })
+found_back : (layer : ℕ) (s : Source) → chain_of (chained (Ok (record { layer = layer; source = s })))
+    ≡ Ok (record { layer = layer; source = s })
 unfolding pick
 found_back layer Absent = refl
 found_back layer Zero = refl
 found_back layer (Stored f) = refl
 found_back layer (Packed m n o) = refl
 
-chain_back : (a : ChainAnswer) → chain_of (chained a) ≡ a
+chain_back : (a : Result LayerSource LayerRefusal) → chain_of (chained a) ≡ a
 unfolding pick
-chain_back (found_in a) = found_back a.layer a.source
-chain_back (not_found_in layer r) = rw ((told r).some, (told r).back)
+chain_back (Ok a) = found_back a.layer a.source
+chain_back (Err refused) = rw ((told refused.refusal).some, (told refused.refusal).back)
 
-pub chain_alike : (a b : ChainAnswer) → chained a ≡ chained b → a ≡ b
+pub chain_alike : (a b : Result LayerSource LayerRefusal) → chained a ≡ chained b → a ≡ b
 chain_alike = lossless chained chain_of chain_back
 
 -- a lookup is told as a chain of one layer is
-abbrev in_chain : LookupAnswer → ChainAnswer
-in_chain (Found s) = found_in (record { layer = 0; source = s })
-in_chain (not_found r) = not_found_in 0 r
+abbrev in_chain : Result Source Refusal → Result LayerSource LayerRefusal
+in_chain (Ok s) = Ok (record { layer = 0; source = s })
+in_chain (Err r) = refused_at 0 r
 
-abbrev out_of_chain : ChainAnswer → LookupAnswer
-out_of_chain (found_in a) = Found a.source
-out_of_chain (not_found_in layer r) = not_found r
+abbrev out_of_chain : Result LayerSource LayerRefusal → Result Source Refusal
+out_of_chain (Ok a) = Ok a.source
+out_of_chain (Err refused) = Err refused.refusal
 
-lookup_back : (a : LookupAnswer) → out_of_chain (chain_of (located a)) ≡ a
-lookup_back (Found s) = ap out_of_chain (chain_back (in_chain (Found s)))
-lookup_back (not_found r) = ap out_of_chain (chain_back (in_chain (not_found r)))
+lookup_back : (a : Result Source Refusal) → out_of_chain (chain_of (located a)) ≡ a
+lookup_back (Ok s) = ap out_of_chain (chain_back (in_chain (Ok s)))
+lookup_back (Err r) = ap out_of_chain (chain_back (in_chain (Err r)))
 
-pub lookup_alike : (a b : LookupAnswer) → located a ≡ located b → a ≡ b
+pub lookup_alike : (a b : Result Source Refusal) → located a ≡ located b → a ≡ b
 lookup_alike = lossless located (λ l. out_of_chain (chain_of l)) lookup_back
 
 -- ---- collapse and normal form
-abbrev collapse_of : Written → CollapseAnswer
-collapse_of w = pick (eqb w.number 0) (written_to w.length) (not_written (refusal_of w.number w.place))
+abbrev collapse_of : Written → Result ℕ Refusal
+collapse_of w = pick (eqb w.number 0) (Ok w.length) (Err (refusal_of w.number w.place))
 
-collapse_back : (a : CollapseAnswer) → collapse_of (written a) ≡ a
+collapse_back : (a : Result ℕ Refusal) → collapse_of (written a) ≡ a
 unfolding pick
-collapse_back (written_to n) = refl
-collapse_back (not_written r) = rw ((told r).some, (told r).back)
+collapse_back (Ok n) = refl
+collapse_back (Err r) = rw ((told r).some, (told r).back)
 
-pub collapse_alike : (a b : CollapseAnswer) → written a ≡ written b → a ≡ b
+pub collapse_alike : (a b : Result ℕ Refusal) → written a ≡ written b → a ≡ b
 collapse_alike = lossless written collapse_of collapse_back
 
 -- ---- the frame
-abbrev frame_of : Framed → FrameAnswer
-frame_of f = pick (eqb f.number 0) (Listed f.count) (not_listed (refusal_of f.number f.place))
+abbrev frame_of : Framed → Result ℕ Refusal
+frame_of f = pick (eqb f.number 0) (Ok f.count) (Err (refusal_of f.number f.place))
 
-frame_back : (a : FrameAnswer) → frame_of (framed a) ≡ a
+frame_back : (a : Result ℕ Refusal) → frame_of (framed a) ≡ a
 unfolding pick
-frame_back (Listed n) = refl
-frame_back (not_listed r) = rw ((told r).some, (told r).back)
+frame_back (Ok n) = refl
+frame_back (Err r) = rw ((told r).some, (told r).back)
 
-pub frame_alike : (a b : FrameAnswer) → framed a ≡ framed b → a ≡ b
+pub frame_alike : (a b : Result ℕ Refusal) → framed a ≡ framed b → a ≡ b
 frame_alike = lossless framed frame_of frame_back
 
 -- ---- the survey
-abbrev survey_of : Surveyed → SurveyAnswer
+abbrev survey_of : Surveyed → Result Totals Refusal
 survey_of s =
     pick (eqb s.number 0)
-    (surveyed_in (record { stored = s.stored; zero = s.zero; absent = s.absent; packed = s.packed }))
-    (not_surveyed (refusal_of s.number s.place))
+    (Ok (record { stored = s.stored; zero = s.zero; absent = s.absent; packed = s.packed }))
+    (Err (refusal_of s.number s.place))
 
-survey_back : (a : SurveyAnswer) → survey_of (surveyed a) ≡ a
+survey_back : (a : Result Totals Refusal) → survey_of (surveyed a) ≡ a
 unfolding pick
-survey_back (surveyed_in t) = refl
-survey_back (not_surveyed r) = rw ((told r).some, (told r).back)
+survey_back (Ok t) = refl
+survey_back (Err r) = rw ((told r).some, (told r).back)
 
-pub survey_alike : (a b : SurveyAnswer) → surveyed a ≡ surveyed b → a ≡ b
+pub survey_alike : (a b : Result Totals Refusal) → surveyed a ≡ surveyed b → a ≡ b
 survey_alike = lossless surveyed survey_of survey_back
 
 -- ---- mending
-abbrev mend_of : Mended → MendAnswer
-mend_of m = pick (eqb m.number 0) (mended_in m.count) (not_mended (refusal_of m.number m.place))
+abbrev mend_of : Mended → Result ℕ Refusal
+mend_of m = pick (eqb m.number 0) (Ok m.count) (Err (refusal_of m.number m.place))
 
-mend_back : (a : MendAnswer) → mend_of (mended_numbers a) ≡ a
+mend_back : (a : Result ℕ Refusal) → mend_of (mended_numbers a) ≡ a
 unfolding pick
-mend_back (mended_in n) = refl
-mend_back (not_mended r) = rw ((told r).some, (told r).back)
+mend_back (Ok n) = refl
+mend_back (Err r) = rw ((told r).some, (told r).back)
 
-pub mend_alike : (a b : MendAnswer) → mended_numbers a ≡ mended_numbers b → a ≡ b
+pub mend_alike : (a b : Result ℕ Refusal) → mended_numbers a ≡ mended_numbers b → a ≡ b
 mend_alike = lossless mended_numbers mend_of mend_back
 
 -- ---- closing
-abbrev close_of : Closed → CloseAnswer
+abbrev close_of : Closed → Result Kept Refusal
 close_of c =
-    pick (eqb c.number 0) (closed_in c.sectors c.grains c.length) (not_closed (refusal_of c.number c.place))
+    pick (eqb c.number 0) (closed_as c.sectors c.grains c.length) (Err (refusal_of c.number c.place))
 
-close_back : (a : CloseAnswer) → close_of (closed_numbers a) ≡ a
+close_back : (a : Result Kept Refusal) → close_of (closed_numbers a) ≡ a
 unfolding pick
-close_back (closed_in k n long) = refl
-close_back (not_closed r) = rw ((told r).some, (told r).back)
+close_back (Ok kept) = refl
+close_back (Err r) = rw ((told r).some, (told r).back)
 
-pub close_alike : (a b : CloseAnswer) → closed_numbers a ≡ closed_numbers b → a ≡ b
+pub close_alike : (a b : Result Kept Refusal) → closed_numbers a ≡ closed_numbers b → a ≡ b
 close_alike = lossless closed_numbers close_of close_back

@@ -15,12 +15,11 @@ use Rattle.format.specs.Check.{misplaced, grain_past, lowest_past}
 use Rattle.format.specs.Accepted.{KdmvRules, CowdRules}
 use Rattle.format.specs.declared.Taken.{Taken}
 use Rattle.format.specs.declared.Header.{Header}
-use Rattle.format.specs.declared.Lowest.TheVariants.{None}
-use Rattle.format.specs.declared.HeaderAnswer.TheVariants.{Known}
 use Rattle.format.proofs.HeaderJudged.{taken_rules}
 use Rattle.format.proofs.Inside.{in_one, none_in, in_rows, in_there, Inside, in_groups}
 use Rattle.format.proofs.LowestGrain.{none_lowest}
 use Rattle.format.proofs.Places.{places_kept}
+use Rattle.std.specs.Prelude.{Ok, None}
 
 -- header, footer and last sector lie in the file
 pub record Fronted (s : List ℕ) (h : Header) : Type 0 where
@@ -41,7 +40,7 @@ module _ (s : List ℕ) where
 
   module _ (h : Header) where
     -- so it is where 1 to 7 are not given
-    pub taken_front : (taken : Taken) → judge_of taken s ≡ Known h → Fronted s h
+    pub taken_front : (taken : Taken) → judge_of taken s ≡ Ok h → Fronted s h
     taken_front taken e =
         ⊎_elim (λ r. rw r.1 (kdmv_fronted r.0)) (λ r. rw r.2 (cowd_fronted r.1)) (taken_rules s taken h e)
 
@@ -62,6 +61,6 @@ module _ (s : List ℕ) where
           grains = in_rows f (grains_of h) (grain_area s h) (none_lowest (grain_past s h) (grains_of h) n);
         }
 
-    pub all_in_file : (taken : Taken) → judge_of taken s ≡ Known h → misplaced s h ≡ false → lowest_past s h ≡ None
+    pub all_in_file : (taken : Taken) → judge_of taken s ≡ Ok h → misplaced s h ≡ false → lowest_past s h ≡ None
         → runs_past (file_sectors s) (areas s h) ≡ false
     all_in_file taken e m n = in_groups s h (inside_all (taken_front taken e) m n)

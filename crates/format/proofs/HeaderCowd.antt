@@ -13,13 +13,13 @@ use Rattle.format.specs.Kdmv.{capacity_broken, grain_size_broken}
 use Rattle.format.specs.Cowd.{cowd_magic, cowd_version_broken, cowd_sizes_broken, count_broken, cowd_fault}
 use Rattle.format.specs.Accepted.{CowdRules}
 use Rattle.format.specs.declared.CowdFields.{CowdFields}
-use Rattle.format.specs.declared.Fault.TheVariants.{None, Found}
 use Rattle.format.specs.declared.Refusal.TheVariants.{Version, Sizes}
 use Rattle.format.proofs.Picked.{pick_else, none_found}
 use Rattle.format.proofs.HeaderSizes.{capacity_kept, kept_capacity, grain_size_kept, kept_grain_size}
+use Rattle.std.specs.Prelude.{Ok, Err}
 
 module _ (s : List ℕ) (k : CowdFields) where
-  pub cowd_kept : 2048 ≤ length s → same_at s 0 cowd_magic ≡ true → cowd_fault k ≡ None → CowdRules s k
+  pub cowd_kept : 2048 ≤ length s → same_at s 0 cowd_magic ≡ true → cowd_fault k ≡ (Ok tt) → CowdRules s k
   unfolding cowd_fault
   cowd_kept long magic e =
       let a = none_found (cowd_version_broken k) _ _ e in
@@ -39,12 +39,12 @@ module _ (s : List ℕ) (k : CowdFields) where
     cowd_sizes : cowd_sizes_broken k ≡ false
     cowd_sizes = rw (kept_capacity k.capacity r.capacity, kept_grain_size 1 k.grain_size r.grain_size)
 
-    pub kept_cowd : cowd_fault k ≡ None
+    pub kept_cowd : cowd_fault k ≡ (Ok tt)
     unfolding cowd_fault
     kept_cowd =
-        pick_else _ (Found Version) _ (rw (eq-eqb k.version 1 r.version))
-        ∙ pick_else _ (Found Sizes) _ cowd_sizes
-        ∙ pick_else _ (Found Sizes) _ (le-ltb _ _ r.stored_count)
+        pick_else _ (Err Version) _ (rw (eq-eqb k.version 1 r.version))
+        ∙ pick_else _ (Err Sizes) _ cowd_sizes
+        ∙ pick_else _ (Err Sizes) _ (le-ltb _ _ r.stored_count)
 
     pub cowd_magic_lem : same_at s 0 cowd_magic ≡ true
     cowd_magic_lem = bytes_same s 0 cowd_magic r.magic

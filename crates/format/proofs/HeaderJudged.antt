@@ -19,37 +19,36 @@ use Rattle.format.specs.Accepted.{KdmvRules, CowdRules}
 use Rattle.format.specs.declared.Header.{Header}
 use Rattle.format.specs.declared.Taken.{Taken}
 use Rattle.format.specs.declared.Taken.TheVariants.{KdmvAlone, Either}
-use Rattle.format.specs.declared.Fault.{Fault}
-use Rattle.format.specs.declared.Fault.TheVariants.{None, Found}
 use Rattle.format.specs.declared.Refusal.TheVariants.{Magic, Footer}
-use Rattle.format.specs.declared.HeaderAnswer.{HeaderAnswer}
-use Rattle.format.specs.declared.HeaderAnswer.TheVariants.{Known, Refused}
 use Rattle.format.proofs.Picked.{pick_then, pick_else, known_past}
 use Rattle.format.proofs.HeaderKdmv.{kdmv_kept, kept_kdmv, kept_magic, kept_end}
 use Rattle.format.proofs.HeaderCowd.{cowd_kept, kept_cowd, cowd_magic_lem}
+use Rattle.std.specs.Prelude.{Result, Ok, Err}
+use Rattle.format.specs.declared.Refusal.{Refusal}
 
 -- ---- the steps of a judgement
-pub known_same : (h l : Header) → Known h ≡ Known l → h ≡ l
+pub known_same : (h l : Header) → ◌≡◌ {A = Result Header Refusal} (Ok h) (Ok l) → h ≡ l
 known_same h l e = cc
 
-pub known_fault : (f : Fault) (a : HeaderAnswer) (h : Header) → unless_fault f a ≡ Known h → (f ≡ None) × (a ≡ Known h)
+pub known_fault : (f : Result (Unit {0}) Refusal) (a : Result Header Refusal) (h : Header) → unless_fault f a ≡ Ok h
+    → (f ≡ (Ok tt)) × (a ≡ Ok h)
 unfolding unless_fault
-known_fault None a h e = (refl, e)
-known_fault (Found r) a h e = let z : ◌≡◌ {A = ℕ} 0 1 = cc in absurd (omega arith)
+known_fault (Ok tt) a h e = (refl, e)
+known_fault (Err r) a h e = let z : ◌≡◌ {A = ℕ} 0 1 = cc in absurd (omega arith)
 
-known_footer : (s : List ℕ) (end : Bool) (l h : Header) → with_footer s end l ≡ Known h → (end ≡ true → footer_broken s ≡ false)
+known_footer : (s : List ℕ) (end : Bool) (l h : Header) → with_footer s end l ≡ Ok h → (end ≡ true → footer_broken s ≡ false)
     × (l ≡ h)
 unfolding with_footer pick
 known_footer s true l h e =
-    let b = known_past (footer_broken s) Footer (Known l) h e in (λ t. b.0, known_same l h b.1)
+    let b = known_past (footer_broken s) Footer (Ok l) h e in (λ t. b.0, known_same l h b.1)
 known_footer s false l h e = (λ t. absurd (false≢true t), known_same l h e)
 
-footer_known : (s : List ℕ) (end : Bool) (h : Header) → (end ≡ true → footer_broken s ≡ false) → with_footer s end h ≡ Known h
+footer_known : (s : List ℕ) (end : Bool) (h : Header) → (end ≡ true → footer_broken s ≡ false) → with_footer s end h ≡ Ok h
 unfolding with_footer pick
 footer_known s true h f = rw (f refl)
 footer_known s false h f = refl
 
-no_fault : (f : Fault) (a : HeaderAnswer) → f ≡ None → unless_fault f a ≡ a
+no_fault : (f : Result (Unit {0}) Refusal) (a : Result Header Refusal) → f ≡ (Ok tt) → unless_fault f a ≡ a
 unfolding unless_fault
 no_fault f a e = rw e
 
@@ -61,7 +60,7 @@ one_magic s e =
 
 -- ---- each kind
 module _ (s : List ℕ) where
-  kdmv_judged : (h : Header) → same_at s 0 kdmv_magic ≡ true → judge_kdmv s ≡ Known h → (KdmvRules s (kdmv_fields s))
+  kdmv_judged : (h : Header) → same_at s 0 kdmv_magic ≡ true → judge_kdmv s ≡ Ok h → (KdmvRules s (kdmv_fields s))
       × (h ≡ kdmv_header_of s)
   unfolding judge_kdmv kdmv_fields
   kdmv_judged h m e =
@@ -70,7 +69,7 @@ module _ (s : List ℕ) where
       let d = known_footer s (at_end (kdmv_fields s)) _ h b.1 in
       (kdmv_kept s (kdmv_fields s) refl (ltb-false _ _ a.0) m b.0 d.0, sym d.1)
 
-  cowd_judged : (taken : Taken) (h : Header) → same_at s 0 cowd_magic ≡ true → judge_cowd taken s ≡ Known h
+  cowd_judged : (taken : Taken) (h : Header) → same_at s 0 cowd_magic ≡ true → judge_cowd taken s ≡ Ok h
       → (kind_gone taken ≡ false) × (CowdRules s (cowd_fields s)) × (h ≡ cowd_header_of s)
   unfolding judge_cowd
   cowd_judged taken h m e =
@@ -81,7 +80,7 @@ module _ (s : List ℕ) where
 
   -- ---- both
   -- a header that is not refused is that of the image's kind, which is one that is taken, and all its rules hold
-  pub taken_rules : (taken : Taken) (h : Header) → judge_of taken s ≡ Known h
+  pub taken_rules : (taken : Taken) (h : Header) → judge_of taken s ≡ Ok h
       → ((KdmvRules s (kdmv_fields s)) × (h ≡ kdmv_header_of s))
       ⊎ ((kind_gone taken ≡ false) × (CowdRules s (cowd_fields s)) × (h ≡ cowd_header_of s))
   unfolding judge_of
@@ -90,21 +89,21 @@ module _ (s : List ℕ) where
       ⊎_elim
       (λ k. inl (kdmv_judged h k (sym (pick_then (same_at s 0 kdmv_magic) _ _ k) ∙ a.1)))
       (λ n.
-      let b : pick (same_at s 0 cowd_magic) (judge_cowd taken s) (Refused Magic) ≡ Known h =
+      let b : pick (same_at s 0 cowd_magic) (judge_cowd taken s) (Err Magic) ≡ Ok h =
       sym (pick_else (same_at s 0 kdmv_magic) _ _ n) ∙ a.1 in
       inr (⊎_elim (λ c. cowd_judged taken h c (sym (pick_then (same_at s 0 cowd_magic) _ _ c) ∙ b))
-      (λ m. let q : Refused Magic ≡ Known h = sym (pick_else (same_at s 0 cowd_magic) _ _ m)
+      (λ m. let q : Err Magic ≡ Ok h = sym (pick_else (same_at s 0 cowd_magic) _ _ m)
       ∙ b in let z : ◌≡◌ {A = ℕ} 0 1 = cc in absurd (omega arith))
       (true_or_false (same_at s 0 cowd_magic))))
       (true_or_false (same_at s 0 kdmv_magic))
 
   -- COWD is not taken but by the moves
-  pub judged_rules : (h : Header) → judge s ≡ Known h → (KdmvRules s (kdmv_fields s)) × (h ≡ kdmv_header_of s)
+  pub judged_rules : (h : Header) → judge s ≡ Ok h → (KdmvRules s (kdmv_fields s)) × (h ≡ kdmv_header_of s)
   unfolding kind_gone
   judged_rules h e = ⊎_elim (λ r. r) (λ r. absurd (true≢false r.0)) (taken_rules KdmvAlone h e)
 
   -- a KDMV image whose header rules hold is not refused 1 to 7
-  pub taken_kdmv : (taken : Taken) → KdmvRules s (kdmv_fields s) → judge_of taken s ≡ Known (kdmv_header_of s)
+  pub taken_kdmv : (taken : Taken) → KdmvRules s (kdmv_fields s) → judge_of taken s ≡ Ok (kdmv_header_of s)
   unfolding judge_of judge_kdmv kdmv_fields
   taken_kdmv taken r =
       pick_else _ _ _ (le-ltb (length s) 4 (omega (arith, r.long)))
@@ -113,11 +112,11 @@ module _ (s : List ℕ) where
       ∙ no_fault _ _ (kept_kdmv s (kdmv_fields s) refl r)
       ∙ footer_known s _ _ (kept_end s (kdmv_fields s) refl r)
 
-  pub kdmv_known : KdmvRules s (kdmv_fields s) → judge s ≡ Known (kdmv_header_of s)
+  pub kdmv_known : KdmvRules s (kdmv_fields s) → judge s ≡ Ok (kdmv_header_of s)
   kdmv_known r = taken_kdmv KdmvAlone r
 
   -- nor is a COWD image, where it is taken
-  pub cowd_known : CowdRules s (cowd_fields s) → judge_of Either s ≡ Known (cowd_header_of s)
+  pub cowd_known : CowdRules s (cowd_fields s) → judge_of Either s ≡ Ok (cowd_header_of s)
   unfolding judge_of judge_cowd kind_gone
   cowd_known r =
       let m : same_at s 0 cowd_magic ≡ true = cowd_magic_lem s (cowd_fields s) r in
@@ -138,9 +137,9 @@ module _ (s : List ℕ) where
   cowd_is r = pick_else _ _ _ (one_magic s (cowd_magic_lem s (cowd_fields s) r))
 
   -- a header that is not refused is the image's header
-  pub taken_header : (taken : Taken) (h : Header) → judge_of taken s ≡ Known h → h ≡ header_of s
+  pub taken_header : (taken : Taken) (h : Header) → judge_of taken s ≡ Ok h → h ≡ header_of s
   taken_header taken h e =
       ⊎_elim (λ r. r.1 ∙ sym (kdmv_is r.0)) (λ r. r.2 ∙ sym (cowd_is r.1)) (taken_rules taken h e)
 
-  pub judged_header : (h : Header) → judge s ≡ Known h → h ≡ header_of s
+  pub judged_header : (h : Header) → judge s ≡ Ok h → h ≡ header_of s
   judged_header h e = taken_header KdmvAlone h e

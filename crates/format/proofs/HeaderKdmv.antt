@@ -16,11 +16,11 @@ use Rattle.format.specs.Kdmv.{flags_broken, capacity_broken, grain_size_broken, 
 use Rattle.format.specs.Header.{kdmv_one_is_zero}
 use Rattle.format.specs.Accepted.{KdmvRules}
 use Rattle.format.specs.declared.KdmvFields.{KdmvFields}
-use Rattle.format.specs.declared.Fault.TheVariants.{None, Found}
 use Rattle.format.specs.declared.Refusal.TheVariants.{Version, Newline, Flags, Sizes}
 use Rattle.format.proofs.Picked.{pick_else, none_found, and_no, no_and}
 use Rattle.format.proofs.HeaderSizes.{capacity_kept, kept_capacity, grain_size_kept, kept_grain_size}
 use Rattle.format.proofs.HeaderFooter.{footer_kept, kept_footer}
+use Rattle.std.specs.Prelude.{Ok, Err}
 
 pub no_or : (a b : Bool) → a ≡ false → b ≡ false → (a || b) ≡ false
 no_or a b e f = rw (e, f)
@@ -51,7 +51,7 @@ module _ (k : KdmvFields) where
 
 -- ---- all of them, where the newline field tells of the image
 module _ (s : List ℕ) (k : KdmvFields) (newline : k.newline ≡ same_at s 73 newline_bytes) where
-  pub kdmv_kept : 512 ≤ length s → same_at s 0 kdmv_magic ≡ true → kdmv_fault k ≡ None
+  pub kdmv_kept : 512 ≤ length s → same_at s 0 kdmv_magic ≡ true → kdmv_fault k ≡ (Ok tt)
       → (at_end k ≡ true → footer_broken s ≡ false) → KdmvRules s k
   unfolding kdmv_fault
   kdmv_kept long magic e footer =
@@ -104,13 +104,13 @@ module _ (s : List ℕ) (k : KdmvFields) (newline : k.newline ≡ same_at s 73 n
         no_or _ _ (kept_capacity k.capacity r.capacity)
         (no_or _ _ (kept_grain_size 8 k.grain_size r.grain_size) (rw (eq-eqb k.entries_per_table 512 r.entries)))
 
-    pub kept_kdmv : kdmv_fault k ≡ None
+    pub kept_kdmv : kdmv_fault k ≡ (Ok tt)
     unfolding kdmv_fault
     kept_kdmv =
-        pick_else _ (Found Version) _ kept_version
-        ∙ pick_else _ (Found Newline) _ kept_newline
-        ∙ pick_else _ (Found Flags) _ kept_flags
-        ∙ pick_else _ (Found Sizes) _ kept_sizes
+        pick_else _ (Err Version) _ kept_version
+        ∙ pick_else _ (Err Newline) _ kept_newline
+        ∙ pick_else _ (Err Flags) _ kept_flags
+        ∙ pick_else _ (Err Sizes) _ kept_sizes
 
     pub kept_magic : same_at s 0 kdmv_magic ≡ true
     kept_magic = bytes_same s 0 kdmv_magic r.magic

@@ -17,30 +17,28 @@ use Rattle.format.specs.declared.Taken.{Taken}
 use Rattle.format.specs.declared.Taken.TheVariants.{KdmvAlone}
 use Rattle.format.specs.declared.KdmvFields.{KdmvFields}
 use Rattle.format.specs.declared.CowdFields.{CowdFields}
-use Rattle.format.specs.declared.Fault.{Fault}
-use Rattle.format.specs.declared.Fault.TheVariants.{None, Found}
 use Rattle.format.specs.declared.Refusal.{Refusal}
 use Rattle.format.specs.declared.Refusal.TheVariants.{Magic}
-use Rattle.format.specs.declared.HeaderAnswer.{HeaderAnswer}
-use Rattle.format.specs.declared.HeaderAnswer.TheVariants.{Known, Refused as unknown}
+use Rattle.std.specs.Prelude.{Result, Ok, Err}
+use Rattle.format.specs.declared.Header.{Header}
 
-abbrev EarlyFault : Fault → Type 0
-EarlyFault None = Unit
-EarlyFault (Found r) = number r ≤ 6
+abbrev EarlyFault : Result (Unit {0}) Refusal → Type 0
+EarlyFault (Ok tt) = Unit
+EarlyFault (Err r) = number r ≤ 6
 
 -- no number over n but 43
 abbrev pub Early : ℕ → Refusal → Type 0
 Early n r = (number r ≤ n) ⊎ (number r ≡ 43)
 
-abbrev EarlyHeader : ℕ → HeaderAnswer → Type 0
-EarlyHeader n (Known h) = Unit
-EarlyHeader n (unknown r) = Early n r
+abbrev EarlyHeader : ℕ → Result Header Refusal → Type 0
+EarlyHeader n (Ok h) = Unit
+EarlyHeader n (Err r) = Early n r
 
-early_fault : (n : ℕ) → 6 ≤ n → (f : Fault) (a : HeaderAnswer) → EarlyFault f → EarlyHeader n a
+early_fault : (n : ℕ) → 6 ≤ n → (f : Result (Unit {0}) Refusal) (a : Result Header Refusal) → EarlyFault f → EarlyHeader n a
     → EarlyHeader n (unless_fault f a)
 unfolding unless_fault
-early_fault n b None a e k = k
-early_fault n b (Found r) a e k = inl (omega arith)
+early_fault n b (Ok tt) a e k = k
+early_fault n b (Err r) a e k = inl (omega arith)
 
 early_kdmv : (k : KdmvFields) → EarlyFault (kdmv_fault k)
 unfolding kdmv_fault
@@ -58,7 +56,7 @@ early_cowd k =
 
 module _ (s : List ℕ) where
   early_other : (taken : Taken) (n : ℕ) → 6 ≤ n
-      → EarlyHeader n (pick (same_at s 0 cowd_magic) (judge_cowd taken s) (unknown Magic))
+      → EarlyHeader n (pick (same_at s 0 cowd_magic) (judge_cowd taken s) (Err Magic))
   unfolding judge_cowd
   early_other taken n b =
       cond_all (EarlyHeader n) _ _ _
@@ -90,15 +88,15 @@ module _ (s : List ℕ) where
       cond_all (EarlyHeader 6) _ _ _ (λ d. inl (lit≤ tt)) (λ d. early_fault 6 (lit≤ tt) _ _ (early_kdmv (kdmv_fields s)) tt))
       (λ n. early_other KdmvAlone 6 (lit≤ tt)))
 
-  pub taken_refuses : (taken : Taken) (r : Refusal) → judge_of taken s ≡ unknown r → Early 7 r
+  pub taken_refuses : (taken : Taken) (r : Refusal) → judge_of taken s ≡ Err r → Early 7 r
   taken_refuses taken r e = rw e at (early_judge taken)
 
   -- so with none of the numbers between
   pub not_between : (r : Refusal) → Early 7 r → (n : ℕ) → 8 ≤ n → n ≤ 42 → number r ≡ n → ⊥
   not_between r e n low high q = ⊎_elim (λ l. omega arith) (λ l. omega arith) e
 
-  pub judge_refuses : (r : Refusal) → judge s ≡ unknown r → (n : ℕ) → 8 ≤ n → n ≤ 42 → number r ≡ n → ⊥
+  pub judge_refuses : (r : Refusal) → judge s ≡ Err r → (n : ℕ) → 8 ≤ n → n ≤ 42 → number r ≡ n → ⊥
   judge_refuses r e = not_between r (taken_refuses KdmvAlone r e)
 
-  pub start_refuses : (r : Refusal) → judge_start s ≡ unknown r → Early 6 r
+  pub start_refuses : (r : Refusal) → judge_start s ≡ Err r → Early 6 r
   start_refuses r e = rw e at early_start

@@ -13,9 +13,9 @@ use Rattle.format.specs.Judged.{Sound}
 use Rattle.format.specs.declared.Taken.{Taken}
 use Rattle.format.specs.declared.Taken.TheVariants.{KdmvAlone}
 use Rattle.format.specs.declared.Header.{Header}
-use Rattle.format.specs.declared.HeaderAnswer.TheVariants.{Known}
 use Rattle.format.proofs.Geometry.{directory_room}
 use Rattle.format.proofs.HeaderJudged.{taken_rules}
+use Rattle.std.specs.Prelude.{Ok}
 
 module _ (s : List ℕ) where
   kdmv_sound : KdmvRules s (kdmv_fields s) → Sound (kdmv_header_of s)
@@ -40,9 +40,9 @@ module _ (s : List ℕ) where
     directory = omega (arith, r.stored_count, directory_room (cowd_fields s).directory_entries);
   }
 
-  pub taken_sound : (taken : Taken) (h : Header) → judge_of taken s ≡ Known h → Sound h
+  pub taken_sound : (taken : Taken) (h : Header) → judge_of taken s ≡ Ok h → Sound h
   taken_sound taken h e =
       ⊎_elim (λ r. rw r.1 (kdmv_sound r.0)) (λ r. rw r.2 (cowd_sound r.1)) (taken_rules s taken h e)
 
-  pub sound_of : (h : Header) → judge s ≡ Known h → Sound h
+  pub sound_of : (h : Header) → judge s ≡ Ok h → Sound h
   sound_of h e = taken_sound KdmvAlone h e

@@ -21,49 +21,48 @@ use Rattle.format.specs.Accepted.{Capacity, GrainSize}
 use Rattle.format.specs.declared.Taken.TheVariants.{KdmvAlone}
 use Rattle.format.specs.declared.KdmvFields.{KdmvFields}
 use Rattle.format.specs.declared.Header.{Header}
-use Rattle.format.specs.declared.Fault.TheVariants.{None}
 use Rattle.format.specs.declared.Refusal.TheVariants.{Magic}
-use Rattle.format.specs.declared.HeaderAnswer.TheVariants.{Known, Refused}
 use Rattle.format.proofs.Picked.{pick_then, pick_else, known_past, none_found}
 use Rattle.format.proofs.HeaderJudged.{known_same, known_fault}
 use Rattle.format.proofs.HeaderSizes.{capacity_kept, grain_size_kept}
+use Rattle.std.specs.Prelude.{Ok, Err}
 
 pub record Started (s : List ℕ) (h : Header) : Type 0 where
   pub long : 512 ≤ length s
   pub magic : same_at s 0 kdmv_magic ≡ true
-  pub kept : kdmv_fault (kdmv_fields s) ≡ None
+  pub kept : kdmv_fault (kdmv_fields s) ≡ (Ok tt)
   pub is : h ≡ start_of s
 
 module _ (s : List ℕ) (h : Header) where
-  kdmv_started : same_at s 0 kdmv_magic ≡ true → judge_kdmv_start s ≡ Known h → Started s h
+  kdmv_started : same_at s 0 kdmv_magic ≡ true → judge_kdmv_start s ≡ Ok h → Started s h
   unfolding judge_kdmv_start
   kdmv_started m e =
       let a = known_past (ltb (length s) 512) _ _ h e in
       let b = known_fault (kdmv_fault (kdmv_fields s)) _ h a.1 in
       record { long = ltb-false _ _ a.0; magic = m; kept = b.0; is = sym (known_same _ h b.1) }
 
-  no_cowd : judge_cowd KdmvAlone s ≡ Known h → ⊥
+  no_cowd : judge_cowd KdmvAlone s ≡ Ok h → ⊥
   unfolding judge_cowd kind_gone
   no_cowd e =
       let a = known_past (ltb (length s) 2048) _ _ h e in true≢false (known_past (kind_gone KdmvAlone) _ _ h a.1).0
 
-  pub started : judge_start s ≡ Known h → Started s h
+  pub started : judge_start s ≡ Ok h → Started s h
   unfolding judge_start
   started e =
       let a = known_past (ltb (length s) 4) _ _ h e in
       ⊎_elim
       (λ m. kdmv_started m (sym (pick_then (same_at s 0 kdmv_magic) _ _ m) ∙ a.1))
       (λ n.
-      let b : pick (same_at s 0 cowd_magic) (judge_cowd KdmvAlone s) (Refused Magic) ≡ Known h =
+      let b : pick (same_at s 0 cowd_magic) (judge_cowd KdmvAlone s) (Err Magic) ≡ Ok h =
       sym (pick_else (same_at s 0 kdmv_magic) _ _ n) ∙ a.1 in
       ⊎_elim (λ c. absurd (no_cowd (sym (pick_then (same_at s 0 cowd_magic) _ _ c) ∙ b)))
-      (λ m. let q : Refused Magic ≡ Known h = sym (pick_else (same_at s 0 cowd_magic) _ _ m)
+      (λ m. let q : Err Magic ≡ Ok h = sym (pick_else (same_at s 0 cowd_magic) _ _ m)
       ∙ b in let z : ◌≡◌ {A = ℕ} 0 1 = cc in absurd (omega arith))
       (true_or_false (same_at s 0 cowd_magic)))
       (true_or_false (same_at s 0 kdmv_magic))
 
 -- its sizes
-sizes_kept : (k : KdmvFields) → kdmv_fault k ≡ None → Capacity k.capacity × GrainSize 8 k.grain_size
+sizes_kept : (k : KdmvFields) → kdmv_fault k ≡ (Ok tt) → Capacity k.capacity × GrainSize 8 k.grain_size
 unfolding kdmv_fault
 sizes_kept k e =
     let a = none_found (version_broken k) _ _ e in
@@ -86,7 +85,7 @@ few_sectors : (c size : ℕ) → 1 ≤ 512 * size → c ≤ 0x80000000 → direc
 unfolding directory_sectors directory_entries
 few_sectors c size one small = omega (arith, ceil_most c (512 * size) one)
 
-start_sizes : (s : List ℕ) → kdmv_fault (kdmv_fields s) ≡ None → StartSizes (start_of s)
+start_sizes : (s : List ℕ) → kdmv_fault (kdmv_fields s) ≡ (Ok tt) → StartSizes (start_of s)
 unfolding kdmv_header
 start_sizes s e =
     let z = sizes_kept (kdmv_fields s) e in

@@ -1,3 +1,5 @@
+pub mod AnyCounted
+pub mod NoSector
 pub mod Geometry
 pub mod Entries
 pub mod Areas
@@ -19,6 +21,7 @@ pub mod Places
 pub mod LowestPart
 pub mod CameToMarking
 pub mod Filed
+pub mod SameParts
 pub mod Passed
 pub mod Grains
 pub mod Lengths

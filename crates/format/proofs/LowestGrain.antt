@@ -6,12 +6,11 @@ use native.Mathlib.Omega.{arith}
 use native.Mathlib.Nat.{add-zero, zero-add}
 use Rattle.base.specs.Pick.{pick}
 use Rattle.format.specs.Check.{lowest_from}
-use Rattle.format.specs.declared.Lowest.{Lowest}
-use Rattle.format.specs.declared.Lowest.TheVariants.{None, Grain}
 use Rattle.format.proofs.Picked.{passed}
+use Rattle.std.specs.Prelude.{Option, Some, None}
 
-pick_none : (b : Bool) (g : ℕ) (y : Lowest) → pick b (Grain g) y ≡ None → (b ≡ false) × (y ≡ None)
-pick_none b g y e = passed b (Grain g) y None (λ q. let z : ◌≡◌ {A = ℕ} 0 1 = cc in omega arith) e
+pick_none : (b : Bool) (g : ℕ) (y : Option ℕ) → pick b (Some g) y ≡ None → (b ≡ false) × (y ≡ None)
+pick_none b g y e = passed b (Some g) y None (λ q. let z : ◌≡◌ {A = ℕ} 0 1 = cc in omega arith) e
 
 module _ (p : ℕ → Bool) where
   none_from : (i n : ℕ) → lowest_from p i n ≡ None → (k : ℕ) → k < n → p (i + k) ≡ false

@@ -23,10 +23,6 @@ use Rattle.format.specs.declared.Taken.TheVariants.{KdmvAlone}
 use Rattle.format.specs.declared.Header.{Header}
 use Rattle.format.specs.declared.Side.{Side}
 use Rattle.format.specs.declared.Side.TheVariants.{Primary, Redundant}
-use Rattle.format.specs.declared.Lowest.TheVariants.{None}
-use Rattle.format.specs.declared.HeaderAnswer.TheVariants.{Known}
-use Rattle.format.specs.declared.CheckAnswer.{CheckAnswer}
-use Rattle.format.specs.declared.CheckAnswer.TheVariants.{Accepted, Refused}
 use Rattle.format.proofs.Areas.{holders_append, meet_apart, apart_meet}
 use Rattle.format.proofs.Filed.{taken_front, inside_all}
 use Rattle.format.proofs.FromGood.{back, placed_from, places_from, two_from}
@@ -42,12 +38,16 @@ use Rattle.format.proofs.Passed.{header_passed, layout_passed}
 use Rattle.format.proofs.Places.{places_kept, kept_places}
 use Rattle.format.proofs.ReadAlike.{holders_areas, holders_frame, Alike, alike_back, Unbroken, alike_unbroken}
 use Rattle.format.proofs.SameHeader.{SameFields, kdmv_header_same, judge_same}
+use Rattle.std.specs.Prelude.{Result, Ok, Err, None}
+use Rattle.format.specs.declared.Shape.{Shape}
+use Rattle.format.specs.declared.Refusal.{Refusal}
+use Rattle.format.specs.AnswerParts.{accepted_as}
 
 -- ---- what is not refused
-pub not_refused : (a : CheckAnswer) → is_refused a ≡ false → (c : ℕ) × (size : ℕ) × (a ≡ Accepted c size)
+pub not_refused : (a : Result Shape Refusal) → is_refused a ≡ false → (c : ℕ) × (size : ℕ) × (a ≡ accepted_as c size)
 unfolding is_refused
-not_refused (Accepted c size) q = (c, size, refl)
-not_refused (Refused r) q = absurd (true≢false q)
+not_refused (Ok sizes) q = (sizes.capacity, sizes.grain_size, refl)
+not_refused (Err r) q = absurd (true≢false q)
 
 -- ---- the areas of the frame that count are among all
 pub holders_six : (a b c d e f : List Area) (x : ℕ) → holders (a ++ (b ++ (c ++ (d ++ (e ++ f))))) x
@@ -139,7 +139,7 @@ module _ (s : List ℕ) (g : Header) (z : Sided s g) where
         }
 
     -- if its header is judged, it is the image's
-    pub same_header : (h : Header) → judge m ≡ Known h → h ≡ z.header
+    pub same_header : (h : Header) → judge m ≡ Ok h → h ≡ z.header
     same_header h e =
         judged_header m h e
         ∙ sym (kdmv_header_same s m fields_same magic)
@@ -149,7 +149,7 @@ module _ (s : List ℕ) (g : Header) (z : Sided s g) where
     alike = rw turned (alike_from s g m sided_placed sided_two apart c kinds z.side)
 
     -- ---- where it is accepted, nothing is broken from the good side
-    pub accepted_unbroken : (capacity size : ℕ) → check m ≡ Accepted capacity size → Unbroken s g
+    pub accepted_unbroken : (capacity size : ℕ) → check m ≡ accepted_as capacity size → Unbroken s g
     accepted_unbroken capacity size e =
         let known = header_passed m (judge m) capacity size e in
         let same : known.0 ≡ z.header = same_header known.0 known.1 in
@@ -166,11 +166,11 @@ module _ (s : List ℕ) (g : Header) (z : Sided s g) where
           let most = meet_apart (areas s g) r.apart x in
           sym (c.rest.kept i (omega (arith, one, most, holders_areas s g x, holders_frame s g x)))
 
-      judged_too : judge m ≡ Known z.header
+      judged_too : judge m ≡ Ok z.header
       judged_too =
           sym (judge_same s m (record { fields = fields_same; last = λ k e. last_same e })) ∙ z.judged
 
-      pub unbroken_accepted : check m ≡ Accepted z.header.capacity z.header.grain_size
+      pub unbroken_accepted : check m ≡ accepted_as z.header.capacity z.header.grain_size
       unfolding check_from check_layout check_grains check_copies check_apart unless_grain pick
       unbroken_accepted =
           let n = alike_unbroken s g m z.header alike r in

@@ -15,10 +15,10 @@ use Rattle.format.specs.Grains.{Grain, zeroed, upper_unless_absent}
 use Rattle.format.specs.declared.Header.{Header}
 use Rattle.format.specs.declared.Entry.TheVariants.{Zero as no_sector, Sector}
 use Rattle.format.specs.declared.Source.TheVariants.{Zero}
-use Rattle.format.specs.declared.LookupAnswer.TheVariants.{Found as found_in}
-use Rattle.format.specs.declared.ChainAnswer.{ChainAnswer}
-use Rattle.format.specs.declared.ChainAnswer.TheVariants.{Found}
 use Rattle.format.proofs.Entries.{some_no}
+use Rattle.std.specs.Prelude.{Result, Ok}
+use Rattle.format.specs.declared.LayerSource.{LayerSource}
+use Rattle.format.specs.declared.LayerRefusal.{LayerRefusal}
 
 -- stopping a comparison at a zero byte: tables that do not differ are equal in every entry that is compared
 pub all_compared : (s : List ℕ) (t u n : ℕ) → tables_differ s t u n ≡ false → (k : ℕ) → k < n → entry_at s t k ≡ entry_at s u k
@@ -49,7 +49,7 @@ pub zero_hides : (lower : Grain) → upper_unless_absent lower zeroed ≡ zeroed
 unfolding upper_unless_absent
 zero_hides lower = refl
 
-pub zero_serves : (layer : ℕ) (below : ChainAnswer) → unless_absent layer (found_in Zero) below
-    ≡ Found (record { layer = layer; source = Zero })
+pub zero_serves : (layer : ℕ) (below : Result LayerSource LayerRefusal) → unless_absent layer (Ok Zero) below
+    ≡ Ok (record { layer = layer; source = Zero })
 unfolding unless_absent
 zero_serves layer below = refl

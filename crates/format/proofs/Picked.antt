@@ -6,10 +6,7 @@ use native.Mathlib.Omega.{arith}
 use Rattle.base.specs.Pick.{pick}
 use Rattle.format.specs.declared.Header.{Header}
 use Rattle.format.specs.declared.Refusal.{Refusal}
-use Rattle.format.specs.declared.Fault.{Fault}
-use Rattle.format.specs.declared.Fault.TheVariants.{None, Found}
-use Rattle.format.specs.declared.HeaderAnswer.{HeaderAnswer}
-use Rattle.format.specs.declared.HeaderAnswer.TheVariants.{Known, Refused}
+use Rattle.std.specs.Prelude.{Result, Ok, Err}
 
 -- the test holds, or fails
 pub pick_then : {A : Type 0} (b : Bool) (x y : A) → b ≡ true → pick b x y ≡ x
@@ -27,13 +24,14 @@ passed true x y z n e = absurd (n e)
 passed false x y z n e = (refl, e)
 
 -- no fault: the rule is kept, and there is none after it
-pub none_found : (b : Bool) (r : Refusal) (y : Fault) → pick b (Found r) y ≡ None → (b ≡ false) × (y ≡ None)
-none_found b r y e = passed b (Found r) y None (λ q. let z : ◌≡◌ {A = ℕ} 0 1 = cc in omega arith) e
+pub none_found : (b : Bool) (r : Refusal) (y : Result (Unit {0}) Refusal) → pick b (Err r) y ≡ (Ok tt)
+    → (b ≡ false) × (y ≡ (Ok tt))
+none_found b r y e = passed b (Err r) y (Ok tt) (λ q. let z : ◌≡◌ {A = ℕ} 0 1 = cc in omega arith) e
 
 -- a header that is known was not refused here
-pub known_past : (b : Bool) (r : Refusal) (y : HeaderAnswer) (h : Header) → pick b (Refused r) y ≡ Known h → (b ≡ false)
-    × (y ≡ Known h)
-known_past b r y h e = passed b (Refused r) y (Known h) (λ q. let z : ◌≡◌ {A = ℕ} 0 1 = cc in omega arith) e
+pub known_past : (b : Bool) (r : Refusal) (y : Result Header Refusal) (h : Header) → pick b (Err r) y ≡ Ok h → (b ≡ false)
+    × (y ≡ Ok h)
+known_past b r y h e = passed b (Err r) y (Ok h) (λ q. let z : ◌≡◌ {A = ℕ} 0 1 = cc in omega arith) e
 
 -- of rules that are true where broken, none is
 pub true_no : (b y : Bool) → pick b true y ≡ false → (b ≡ false) × (y ≡ false)

@@ -16,11 +16,11 @@ use Rattle.format.specs.Frame.{frame_areas}
 use Rattle.format.specs.Check.{grain_past, marker_broken_at, bad_marker, lowest_past, lowest_bad_marker}
 use Rattle.format.specs.declared.Header.{Header}
 use Rattle.format.specs.declared.Entry.TheVariants.{Sector}
-use Rattle.format.specs.declared.Lowest.TheVariants.{None}
 use Rattle.format.proofs.Areas.{holders_append, meet_apart, apart_meet}
 use Rattle.format.proofs.Entries.{by_entry, sectors_same, some_sectors}
 use Rattle.format.proofs.Held.{held_row, held_named}
 use Rattle.format.proofs.LowestGrain.{none_lowest, lowest_none}
+use Rattle.std.specs.Prelude.{None}
 
 -- all areas are the frame's and the grains'
 pub areas_frame : (s : List ℕ) (h : Header) → areas s h ≡ frame_areas s h ++ grain_areas s h

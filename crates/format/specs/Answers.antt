@@ -12,23 +12,7 @@ use Rattle.format.specs.declared.Refusal.TheVariants.{StillOpen, NotMendable, No
 use Rattle.format.specs.declared.Refusal.TheVariants.{NotMovable, ProfileSizes}
 use Rattle.format.specs.declared.Source.{Source}
 use Rattle.format.specs.declared.Source.TheVariants.{Absent, Zero, Stored, Packed}
-use Rattle.format.specs.declared.HeaderAnswer.{HeaderAnswer}
-use Rattle.format.specs.declared.HeaderAnswer.TheVariants.{Known, Refused as header_refused}
-use Rattle.format.specs.declared.CheckAnswer.{CheckAnswer}
-use Rattle.format.specs.declared.CheckAnswer.TheVariants.{Accepted, Refused as check_refused}
-use Rattle.format.specs.declared.LookupAnswer.{LookupAnswer}
-use Rattle.format.specs.declared.LookupAnswer.TheVariants.{Found, Refused as lookup_refused}
-use Rattle.format.specs.declared.ChainAnswer.{ChainAnswer}
-use Rattle.format.specs.declared.ChainAnswer.TheVariants.{Found as found_in, Refused as chain_refused}
-use Rattle.format.specs.declared.CollapseAnswer.{CollapseAnswer}
-use Rattle.format.specs.declared.CollapseAnswer.TheVariants.{Written as written_to, Refused as collapse_refused}
-use Rattle.format.specs.declared.FrameAnswer.{FrameAnswer}
-use Rattle.format.specs.declared.FrameAnswer.TheVariants.{Listed, Refused as frame_refused}
-use Rattle.format.specs.declared.SurveyAnswer.{SurveyAnswer}
-use Rattle.format.specs.declared.SurveyAnswer.TheVariants.{Surveyed as surveyed_in, Refused as survey_refused}
 use Rattle.format.specs.declared.MarkedAnswer.{MarkedAnswer}
-use Rattle.format.specs.declared.MendAnswer.{MendAnswer}
-use Rattle.format.specs.declared.MendAnswer.TheVariants.{Mended as mended_in, Refused as mend_refused}
 use Rattle.format.specs.declared.numbers.Verdict.{Verdict}
 use Rattle.format.specs.declared.numbers.Marked.{Marked}
 use Rattle.format.specs.declared.numbers.Located.{Located}
@@ -37,13 +21,18 @@ use Rattle.format.specs.declared.numbers.Framed.{Framed}
 use Rattle.format.specs.declared.numbers.Surveyed.{Surveyed}
 use Rattle.format.specs.declared.numbers.Mended.{Mended}
 use Rattle.format.specs.declared.numbers.Head.{Head}
-use Rattle.format.specs.declared.closing.CloseAnswer.{CloseAnswer}
-use Rattle.format.specs.declared.closing.CloseAnswer.TheVariants.{Closed as closed_in, Refused as close_refused}
 use Rattle.format.specs.declared.closing.Closed.{Closed}
 use Rattle.format.specs.declared.steps.Way.{Way}
 use Rattle.format.specs.declared.steps.Steps.{Steps}
 use Rattle.format.specs.declared.Side.{Side}
 use Rattle.format.specs.declared.Side.TheVariants.{Primary, Redundant}
+use Rattle.std.specs.Prelude.{Result, Ok, Err}
+use Rattle.format.specs.declared.Header.{Header}
+use Rattle.format.specs.declared.Shape.{Shape}
+use Rattle.format.specs.declared.LayerSource.{LayerSource}
+use Rattle.format.specs.declared.LayerRefusal.{LayerRefusal}
+use Rattle.format.specs.declared.Totals.{Totals}
+use Rattle.format.specs.declared.closing.Kept.{Kept}
 
 -- ---- refusals: number and place
 abbrev pub number : Refusal → ℕ
@@ -110,8 +99,8 @@ place ProfileSizes = 0
 
 -- ---- a header alone: the descriptor's numbers and the dirty number as it has them. None is judged here: 8 and 27 are no rules
 -- of the header
-abbrev pub header_numbers : HeaderAnswer → Head
-header_numbers (Known h) = record {
+abbrev pub header_numbers : Result Header Refusal → Head
+header_numbers (Ok h) = record {
   number = 0;
   place = 0;
   capacity = h.capacity;
@@ -120,7 +109,7 @@ header_numbers (Known h) = record {
   descriptor_sectors = h.descriptor_sectors;
   dirty = h.dirty;
 }
-header_numbers (header_refused r) = record {
+header_numbers (Err r) = record {
   number = number r;
   place = place r;
   capacity = 0;
@@ -131,9 +120,9 @@ header_numbers (header_refused r) = record {
 }
 
 -- ---- the check: capacity and grain size
-abbrev pub verdict : CheckAnswer → Verdict
-verdict (Accepted capacity grain_size) = record { number = 0; place = 0; capacity = capacity; grain_size = grain_size }
-verdict (check_refused r) = record { number = number r; place = place r; capacity = 0; grain_size = 0 }
+abbrev pub verdict : Result Shape Refusal → Verdict
+verdict (Ok sizes) = record { number = 0; place = 0; capacity = sizes.capacity; grain_size = sizes.grain_size }
+verdict (Err r) = record { number = number r; place = place r; capacity = 0; grain_size = 0 }
 
 -- ---- the check in a lent list: capacity, grain size and the sectors marked; on 12 their number stands beside two zeros
 abbrev pub marked_numbers : MarkedAnswer → Marked
@@ -157,16 +146,16 @@ served layer (Packed m n o) = record { number = 0; layer = layer; place = 0; kin
 abbrev pub unserved : ℕ → Refusal → Located
 unserved layer r = record { number = number r; layer = layer; place = place r; kind = 0; sector = 0; size = 0; offset = 0 }
 
-abbrev pub located : LookupAnswer → Located
-located (Found source) = served 0 source
-located (lookup_refused r) = unserved 0 r
+abbrev pub located : Result Source Refusal → Located
+located (Ok source) = served 0 source
+located (Err r) = unserved 0 r
 
-abbrev pub chained : ChainAnswer → Located
-chained (found_in a) = served a.layer a.source
-chained (chain_refused layer r) = unserved layer r
+abbrev pub chained : Result LayerSource LayerRefusal → Located
+chained (Ok a) = served a.layer a.source
+chained (Err refused) = unserved refused.layer refused.refusal
 
 -- ---- the way to a lookup's answer, and the answer: 1 where entry 1 means zeros
-abbrev pub steps_numbers : Way → LookupAnswer → Steps
+abbrev pub steps_numbers : Way → Result Source Refusal → Steps
 steps_numbers w a =
     let told = located a in
     record {
@@ -185,20 +174,20 @@ steps_numbers w a =
     }
 
 -- ---- collapse and normal form: the result's length in bytes
-abbrev pub written : CollapseAnswer → Written
-written (written_to long) = record { number = 0; place = 0; length = long }
-written (collapse_refused r) = record { number = number r; place = place r; length = 0 }
+abbrev pub written : Result ℕ Refusal → Written
+written (Ok long) = record { number = 0; place = 0; length = long }
+written (Err r) = record { number = number r; place = place r; length = 0 }
 
 -- ---- the frame: how many areas are listed
-abbrev pub framed : FrameAnswer → Framed
-framed (Listed count) = record { number = 0; place = 0; count = count }
-framed (frame_refused r) = record { number = number r; place = place r; count = 0 }
+abbrev pub framed : Result ℕ Refusal → Framed
+framed (Ok count) = record { number = 0; place = 0; count = count }
+framed (Err r) = record { number = number r; place = place r; count = 0 }
 
 -- ---- the survey: the four totals
-abbrev pub surveyed : SurveyAnswer → Surveyed
-surveyed (surveyed_in t) =
+abbrev pub surveyed : Result Totals Refusal → Surveyed
+surveyed (Ok t) =
     record { number = 0; place = 0; stored = t.stored; zero = t.zero; absent = t.absent; packed = t.packed }
-surveyed (survey_refused r) =
+surveyed (Err r) =
     record { number = number r; place = place r; stored = 0; zero = 0; absent = 0; packed = 0 }
 
 -- ---- mending: how many entries differed
@@ -206,12 +195,12 @@ surveyed (survey_refused r) =
 abbrev pub side_of : ℕ → Side
 side_of good = pick (eqb good 0) Primary Redundant
 
-abbrev pub mended_numbers : MendAnswer → Mended
-mended_numbers (mended_in count) = record { number = 0; place = 0; count = count }
-mended_numbers (mend_refused r) = record { number = number r; place = place r; count = 0 }
+abbrev pub mended_numbers : Result ℕ Refusal → Mended
+mended_numbers (Ok count) = record { number = 0; place = 0; count = count }
+mended_numbers (Err r) = record { number = number r; place = place r; count = 0 }
 
 -- ---- closing: kept sectors, kept grains, the tail's length in bytes
-abbrev pub closed_numbers : CloseAnswer → Closed
-closed_numbers (closed_in sectors grains long) =
-    record { number = 0; place = 0; sectors = sectors; grains = grains; length = long }
-closed_numbers (close_refused r) = record { number = number r; place = place r; sectors = 0; grains = 0; length = 0 }
+abbrev pub closed_numbers : Result Kept Refusal → Closed
+closed_numbers (Ok kept) =
+    record { number = 0; place = 0; sectors = kept.sectors; grains = kept.grains; length = kept.length }
+closed_numbers (Err r) = record { number = number r; place = place r; sectors = 0; grains = 0; length = 0 }

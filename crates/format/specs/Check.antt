@@ -9,8 +9,6 @@ use Rattle.format.specs.Areas.{meet}
 use Rattle.format.specs.declared.Header.{Header}
 use Rattle.format.specs.declared.Entry.{Entry}
 use Rattle.format.specs.declared.Entry.TheVariants.{Absent, Zero, Sector}
-use Rattle.format.specs.declared.Lowest.{Lowest}
-use Rattle.format.specs.declared.Lowest.TheVariants.{None, Grain}
 use Rattle.format.specs.declared.MisplacedPart.{MisplacedPart}
 use Rattle.format.specs.declared.MisplacedPart.TheVariants.{Descriptor, Directory, RedundantDirectory}
 use Rattle.format.specs.declared.MisplacedPart.TheVariants.{PrimaryTable, RedundantTable}
@@ -18,10 +16,9 @@ use Rattle.format.specs.declared.Taken.{Taken}
 use Rattle.format.specs.declared.Taken.TheVariants.{KdmvAlone}
 use Rattle.format.specs.declared.Refusal.{Refusal}
 use Rattle.format.specs.declared.Refusal.TheVariants.{Misplaced, GrainPast, Marker, CopiesDiffer, SharedSector}
-use Rattle.format.specs.declared.HeaderAnswer.{HeaderAnswer}
-use Rattle.format.specs.declared.HeaderAnswer.TheVariants.{Known, Refused as header_refused}
-use Rattle.format.specs.declared.CheckAnswer.{CheckAnswer}
-use Rattle.format.specs.declared.CheckAnswer.TheVariants.{Accepted, Refused}
+use Rattle.std.specs.Prelude.{Result, Ok, Err, Option, Some, None}
+use Rattle.format.specs.declared.Shape.{Shape}
+use Rattle.format.specs.AnswerParts.{accepted_as}
 
 -- ---- 8, part by part, in the order of their places
 -- one descriptor number zero and one not, or the descriptor past F
@@ -63,9 +60,9 @@ lowest_misplaced s h =
 
 -- ---- 9 and 10, with the lowest grain number
 -- the first of the n grains from g on that is broken
-unfoldable pub lowest_from : (ℕ → Bool) → ℕ → ℕ → Lowest
+unfoldable pub lowest_from : (ℕ → Bool) → ℕ → ℕ → Option ℕ
 lowest_from broken g zero = None
-lowest_from broken g (suc n) = let later = lowest_from broken (g + 1) n in pick (broken g) (Grain g) later
+lowest_from broken g (suc n) = let later = lowest_from broken (g + 1) n in pick (broken g) (Some g) later
 
 -- 9: a grain past F. A packed grain takes a sector at least: one whose marker is not below F is past F, whatever is read there
 abbrev pub grain_past : List ℕ → Header → ℕ → Bool
@@ -80,10 +77,10 @@ marker_broken_at s grain_size g (Sector e) = marker_broken s grain_size g e
 abbrev pub bad_marker : List ℕ → Header → ℕ → Bool
 bad_marker s h g = h.packed && marker_broken_at s h.grain_size g (grain_entry s h g)
 
-abbrev pub lowest_past : List ℕ → Header → Lowest
+abbrev pub lowest_past : List ℕ → Header → Option ℕ
 lowest_past s h = lowest_from (grain_past s h) 0 (grains_of h)
 
-abbrev pub lowest_bad_marker : List ℕ → Header → Lowest
+abbrev pub lowest_bad_marker : List ℕ → Header → Option ℕ
 lowest_bad_marker s h = lowest_from (bad_marker s h) 0 (grains_of h)
 
 -- ---- 11: copies differ
@@ -113,30 +110,30 @@ unfoldable pub copies_differ : List ℕ → Header → Bool
 copies_differ s h = pick (eqb h.redundant 0) false (any_below (entry_differs s h) (directory_entries_of h))
 
 -- ---- 8 to 12 in their order
-unfoldable pub unless_grain : Lowest → (ℕ → Refusal) → CheckAnswer → CheckAnswer
+unfoldable pub unless_grain : Option ℕ → (ℕ → Refusal) → Result Shape Refusal → Result Shape Refusal
 unless_grain None refusal a = a
-unless_grain (Grain g) refusal a = Refused (refusal g)
+unless_grain (Some g) refusal a = Err (refusal g)
 
 -- 12 comes last: a sector in two areas
-unfoldable pub check_apart : List ℕ → Header → CheckAnswer
-check_apart s h = pick (meet (areas s h)) (Refused SharedSector) (Accepted h.capacity h.grain_size)
+unfoldable pub check_apart : List ℕ → Header → Result Shape Refusal
+check_apart s h = pick (meet (areas s h)) (Err SharedSector) (accepted_as h.capacity h.grain_size)
 
-unfoldable pub check_copies : List ℕ → Header → CheckAnswer
-check_copies s h = pick (copies_differ s h) (Refused CopiesDiffer) (check_apart s h)
+unfoldable pub check_copies : List ℕ → Header → Result Shape Refusal
+check_copies s h = pick (copies_differ s h) (Err CopiesDiffer) (check_apart s h)
 
-unfoldable pub check_grains : List ℕ → Header → CheckAnswer
+unfoldable pub check_grains : List ℕ → Header → Result Shape Refusal
 check_grains s h = unless_grain (lowest_past s h) GrainPast (unless_grain (lowest_bad_marker s h) Marker (check_copies s h))
 
-unfoldable pub check_layout : List ℕ → Header → CheckAnswer
-check_layout s h = pick (misplaced s h) (Refused (Misplaced (lowest_misplaced s h))) (check_grains s h)
+unfoldable pub check_layout : List ℕ → Header → Result Shape Refusal
+check_layout s h = pick (misplaced s h) (Err (Misplaced (lowest_misplaced s h))) (check_grains s h)
 
-unfoldable pub check_from : List ℕ → HeaderAnswer → CheckAnswer
-check_from s (header_refused r) = Refused r
-check_from s (Known h) = check_layout s h
+unfoldable pub check_from : List ℕ → Result Header Refusal → Result Shape Refusal
+check_from s (Err r) = Err r
+check_from s (Ok h) = check_layout s h
 
-abbrev pub check_of : Taken → List ℕ → CheckAnswer
+abbrev pub check_of : Taken → List ℕ → Result Shape Refusal
 check_of taken s = check_from s (judge_of taken s)
 
 -- every call but the moves takes KDMV alone
-abbrev pub check : List ℕ → CheckAnswer
+abbrev pub check : List ℕ → Result Shape Refusal
 check s = check_of KdmvAlone s

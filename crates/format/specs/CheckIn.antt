@@ -10,9 +10,10 @@ use Rattle.format.specs.Areas.{Area, areas, shares_any}
 use Rattle.format.specs.Check.{check}
 use Rattle.format.specs.Answers.{number}
 use Rattle.format.specs.declared.Refusal.TheVariants.{TooLittleRoom}
-use Rattle.format.specs.declared.CheckAnswer.{CheckAnswer}
-use Rattle.format.specs.declared.CheckAnswer.TheVariants.{Accepted, Refused}
 use Rattle.format.specs.declared.MarkedAnswer.{MarkedAnswer}
+use Rattle.std.specs.Prelude.{Result, Ok, Err}
+use Rattle.format.specs.declared.Shape.{Shape}
+use Rattle.format.specs.declared.Refusal.{Refusal}
 
 -- ---- room: a word for every 64 file sectors, rounded up
 abbrev pub words_needed : List ℕ → ℕ
@@ -35,17 +36,17 @@ marked_sectors l = sectors_of (before_meeting [] l)
 
 -- ---- the answer, where the list has `room` words
 -- the answer is acceptance or 12, the two that are given after areas were marked
-unfoldable pub came_to_marking : CheckAnswer → Bool
-came_to_marking (Accepted capacity grain_size) = true
-came_to_marking (Refused r) = eqb (number r) 12
+unfoldable pub came_to_marking : Result Shape Refusal → Bool
+came_to_marking (Ok sizes) = true
+came_to_marking (Err r) = eqb (number r) 12
 
 -- 21 comes after 11 and before 12: in place of acceptance or 12 where the list is too short
-unfoldable pub check_in_room : List ℕ → ℕ → CheckAnswer
-check_in_room s room = pick (came_to_marking (check s) && ltb room (words_needed s)) (Refused TooLittleRoom) (check s)
+unfoldable pub check_in_room : List ℕ → ℕ → Result Shape Refusal
+check_in_room s room = pick (came_to_marking (check s) && ltb room (words_needed s)) (Err TooLittleRoom) (check s)
 
 -- after acceptance and 12 the sectors of the areas before the first that meets an earlier one (after acceptance none does, so
 -- the sum of all: law `marked_all`), and 0 on every other refusal
-unfoldable pub with_marked : List ℕ → CheckAnswer → MarkedAnswer
+unfoldable pub with_marked : List ℕ → Result Shape Refusal → MarkedAnswer
 with_marked s a = record { checked = a; marked = pick (came_to_marking a) (marked_sectors (areas s (header_of s))) 0 }
 
 abbrev pub check_in : List ℕ → ℕ → MarkedAnswer

@@ -9,10 +9,10 @@ use Rattle.format.specs.Stream.{overhead, kept_grains, kept_sectors}
 use Rattle.format.specs.Tail.{tail_sectors, tail_bytes}
 use Rattle.format.specs.declared.Header.{Header}
 use Rattle.format.specs.declared.Refusal.TheVariants.{TooLittleRoom, NotClosable}
-use Rattle.format.specs.declared.HeaderAnswer.{HeaderAnswer}
-use Rattle.format.specs.declared.HeaderAnswer.TheVariants.{Known, Refused as header_refused}
-use Rattle.format.specs.declared.closing.CloseAnswer.{CloseAnswer}
-use Rattle.format.specs.declared.closing.CloseAnswer.TheVariants.{Closed, Refused}
+use Rattle.std.specs.Prelude.{Result, Ok, Err}
+use Rattle.format.specs.declared.Refusal.{Refusal}
+use Rattle.format.specs.declared.closing.Kept.{Kept}
+use Rattle.format.specs.AnswerParts.{closed_as}
 
 -- ---- 41, part by part
 -- no start with directory at end (5 has refused one without flag 0x20000), or one with a redundant directory
@@ -41,24 +41,24 @@ closed_image s = take (512 * kept_sectors s (start_of s)) s ++ tail_of s (start_
 
 -- ---- the answer, where the output has `room` bytes
 -- 41, 21
-unfoldable pub close_from : List ℕ → Header → ℕ → CloseAnswer
+unfoldable pub close_from : List ℕ → Header → ℕ → Result Kept Refusal
 close_from s h room =
-    pick (not_closable s h) (Refused NotClosable)
-    (pick (ltb room (tail_length s h)) (Refused TooLittleRoom)
-    (Closed (kept_sectors s h) (length (kept_grains s h)) (tail_length s h)))
+    pick (not_closable s h) (Err NotClosable)
+    (pick (ltb room (tail_length s h)) (Err TooLittleRoom)
+    (closed_as (kept_sectors s h) (length (kept_grains s h)) (tail_length s h)))
 
-unfoldable pub close_judged : List ℕ → ℕ → HeaderAnswer → CloseAnswer
-close_judged s room (header_refused r) = Refused r
-close_judged s room (Known h) = close_from s h room
+unfoldable pub close_judged : List ℕ → ℕ → Result Header Refusal → Result Kept Refusal
+close_judged s room (Err r) = Err r
+close_judged s room (Ok h) = close_from s h room
 
 -- 1 to 6 and 43 as the header has them, 41, 21
-abbrev pub close : List ℕ → ℕ → CloseAnswer
+abbrev pub close : List ℕ → ℕ → Result Kept Refusal
 close s room = close_judged s room (judge_start s)
 
 -- ---- the output: the tail from its start on, and what it held past that; on a refusal all that it held
-unfoldable pub tail_written : CloseAnswer → List ℕ → List ℕ → List ℕ
-tail_written (Closed sectors grains long) tail out = over out 0 tail
-tail_written (Refused r) tail out = out
+unfoldable pub tail_written : Result Kept Refusal → List ℕ → List ℕ → List ℕ
+tail_written (Ok kept) tail out = over out 0 tail
+tail_written (Err r) tail out = out
 
 abbrev pub close_output : List ℕ → List ℕ → List ℕ
 close_output s out = tail_written (close s (length out)) (tail_of s (start_of s)) out

@@ -5,9 +5,9 @@ use Rattle.base.specs.Numbers.{le_at}
 use Rattle.format.specs.Geometry.{directory_entries}
 use Rattle.format.specs.Kdmv.{capacity_broken, grain_size_broken}
 use Rattle.format.specs.declared.CowdFields.{CowdFields}
-use Rattle.format.specs.declared.Fault.{Fault}
-use Rattle.format.specs.declared.Fault.TheVariants.{None, Found}
 use Rattle.format.specs.declared.Refusal.TheVariants.{Version, Sizes}
+use Rattle.std.specs.Prelude.{Result, Ok, Err}
+use Rattle.format.specs.declared.Refusal.{Refusal}
 
 abbrev pub cowd_magic : List ℕ
 cowd_magic = 0x43 ∷ 0x4f ∷ 0x57 ∷ 0x44 ∷ []
@@ -36,7 +36,7 @@ abbrev pub count_broken : CowdFields → Bool
 count_broken k = ltb k.directory_entries (directory_entries k.capacity 4096 k.grain_size)
 
 -- the first of 3 and 6 that is broken
-unfoldable pub cowd_fault : CowdFields → Fault
+unfoldable pub cowd_fault : CowdFields → Result (Unit {0}) Refusal
 cowd_fault k =
-    pick (cowd_version_broken k) (Found Version)
-    (pick (cowd_sizes_broken k) (Found Sizes) (pick (count_broken k) (Found Sizes) None))
+    pick (cowd_version_broken k) (Err Version)
+    (pick (cowd_sizes_broken k) (Err Sizes) (pick (count_broken k) (Err Sizes) (Ok tt)))

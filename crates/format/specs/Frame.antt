@@ -9,10 +9,8 @@ use Rattle.format.specs.Areas.{redundant_tables, footer_area, last_area}
 use Rattle.format.specs.Check.{misplaced, lowest_misplaced}
 use Rattle.format.specs.declared.Header.{Header}
 use Rattle.format.specs.declared.Refusal.TheVariants.{Misplaced, TooLittleRoom}
-use Rattle.format.specs.declared.HeaderAnswer.{HeaderAnswer}
-use Rattle.format.specs.declared.HeaderAnswer.TheVariants.{Known, Refused as header_refused}
-use Rattle.format.specs.declared.FrameAnswer.{FrameAnswer}
-use Rattle.format.specs.declared.FrameAnswer.TheVariants.{Listed, Refused}
+use Rattle.std.specs.Prelude.{Result, Ok, Err}
+use Rattle.format.specs.declared.Refusal.{Refusal}
 
 -- ---- the list
 -- one area, and the areas of one group
@@ -45,21 +43,21 @@ abbrev pub frame_count : List ℕ → Header → ℕ
 frame_count s h = length (frame_areas s h)
 
 -- ---- the answer, where the list has `room` words: 1 to 8 as the check has them, then 21
-unfoldable pub listed_if_room : ℕ → ℕ → FrameAnswer
-listed_if_room room count = pick (ltb room (3 * count)) (Refused TooLittleRoom) (Listed count)
+unfoldable pub listed_if_room : ℕ → ℕ → Result ℕ Refusal
+listed_if_room room count = pick (ltb room (3 * count)) (Err TooLittleRoom) (Ok count)
 
-unfoldable pub frame_from : List ℕ → ℕ → HeaderAnswer → FrameAnswer
-frame_from s room (header_refused r) = Refused r
-frame_from s room (Known h) =
-    pick (misplaced s h) (Refused (Misplaced (lowest_misplaced s h))) (listed_if_room room (frame_count s h))
+unfoldable pub frame_from : List ℕ → ℕ → Result Header Refusal → Result ℕ Refusal
+frame_from s room (Err r) = Err r
+frame_from s room (Ok h) =
+    pick (misplaced s h) (Err (Misplaced (lowest_misplaced s h))) (listed_if_room room (frame_count s h))
 
-abbrev pub frame : List ℕ → ℕ → FrameAnswer
+abbrev pub frame : List ℕ → ℕ → Result ℕ Refusal
 frame s room = frame_from s room (judge s)
 
 -- ---- the lent list: the words from its start on, and what it held past them; on a refusal all that it held
-unfoldable pub list_after : FrameAnswer → List ℕ → List ℕ → List ℕ
-list_after (Listed count) words list = over list 0 words
-list_after (Refused r) words list = list
+unfoldable pub list_after : Result ℕ Refusal → List ℕ → List ℕ → List ℕ
+list_after (Ok count) words list = over list 0 words
+list_after (Err r) words list = list
 
 abbrev pub frame_list : List ℕ → List ℕ → List ℕ
 frame_list s list = list_after (frame s (length list)) (frame_words s (header_of s)) list

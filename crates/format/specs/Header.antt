@@ -8,13 +8,11 @@ use Rattle.format.specs.Cowd.{cowd_magic, cowd_fields, cowd_fault}
 use Rattle.format.specs.declared.KdmvFields.{KdmvFields}
 use Rattle.format.specs.declared.CowdFields.{CowdFields}
 use Rattle.format.specs.declared.Header.{Header}
-use Rattle.format.specs.declared.Fault.{Fault}
-use Rattle.format.specs.declared.Fault.TheVariants.{None, Found}
 use Rattle.format.specs.declared.Refusal.TheVariants.{TooShort, Magic, Footer, KindGone}
 use Rattle.format.specs.declared.Taken.{Taken}
 use Rattle.format.specs.declared.Taken.TheVariants.{KdmvAlone, Either}
-use Rattle.format.specs.declared.HeaderAnswer.{HeaderAnswer}
-use Rattle.format.specs.declared.HeaderAnswer.TheVariants.{Known, Refused}
+use Rattle.std.specs.Prelude.{Result, Ok, Err}
+use Rattle.format.specs.declared.Refusal.{Refusal}
 
 -- ---- what all calls have to know, of either kind
 -- when entry 1 means zeros: in a KDMV image of version 2 or 3 with flag 0x4. In any other, and in COWD, it is sector 1
@@ -85,47 +83,47 @@ abbrev pub directory_entries_of : Header → ℕ
 directory_entries_of h = directory_entries h.capacity h.entries_per_table h.grain_size
 
 -- ---- the order of refusals: 1, 2, then by kind. A COWD image is 43 after 1, where its kind is not taken
-unfoldable pub unless_fault : Fault → HeaderAnswer → HeaderAnswer
-unless_fault None a = a
-unless_fault (Found r) a = Refused r
+unfoldable pub unless_fault : Result (Unit {0}) Refusal → Result Header Refusal → Result Header Refusal
+unless_fault (Ok tt) a = a
+unless_fault (Err r) a = Err r
 
 -- 7 is judged where the directory is at the end
-unfoldable pub with_footer : List ℕ → Bool → Header → HeaderAnswer
-with_footer s end h = pick end (pick (footer_broken s) (Refused Footer) (Known h)) (Known h)
+unfoldable pub with_footer : List ℕ → Bool → Header → Result Header Refusal
+with_footer s end h = pick end (pick (footer_broken s) (Err Footer) (Ok h)) (Ok h)
 
-unfoldable pub judge_kdmv : List ℕ → HeaderAnswer
+unfoldable pub judge_kdmv : List ℕ → Result Header Refusal
 judge_kdmv s =
-    pick (ltb (length s) 512) (Refused TooShort)
+    pick (ltb (length s) 512) (Err TooShort)
     (unless_fault (kdmv_fault (kdmv_fields s)) (with_footer s (at_end (kdmv_fields s)) (kdmv_header_of s)))
 
 unfoldable pub kind_gone : Taken → Bool
 kind_gone KdmvAlone = true
 kind_gone Either = false
 
-unfoldable pub judge_cowd : Taken → List ℕ → HeaderAnswer
+unfoldable pub judge_cowd : Taken → List ℕ → Result Header Refusal
 judge_cowd taken s =
-    pick (ltb (length s) 2048) (Refused TooShort)
-    (pick (kind_gone taken) (Refused KindGone) (unless_fault (cowd_fault (cowd_fields s)) (Known (cowd_header_of s))))
+    pick (ltb (length s) 2048) (Err TooShort)
+    (pick (kind_gone taken) (Err KindGone) (unless_fault (cowd_fault (cowd_fields s)) (Ok (cowd_header_of s))))
 
-unfoldable pub judge_of : Taken → List ℕ → HeaderAnswer
+unfoldable pub judge_of : Taken → List ℕ → Result Header Refusal
 judge_of taken s =
-    pick (ltb (length s) 4) (Refused TooShort)
-    (pick (same_at s 0 kdmv_magic) (judge_kdmv s) (pick (same_at s 0 cowd_magic) (judge_cowd taken s) (Refused Magic)))
+    pick (ltb (length s) 4) (Err TooShort)
+    (pick (same_at s 0 kdmv_magic) (judge_kdmv s) (pick (same_at s 0 cowd_magic) (judge_cowd taken s) (Err Magic)))
 
 -- every call but the moves takes KDMV alone
-abbrev pub judge : List ℕ → HeaderAnswer
+abbrev pub judge : List ℕ → Result Header Refusal
 judge s = judge_of KdmvAlone s
 
 -- ---- a start (request A12), which has no footer yet: 7 is not judged, and the directory sector is as sector 0 has it
 abbrev pub start_of : List ℕ → Header
 start_of s = kdmv_header (kdmv_fields s) (kdmv_fields s).directory
 
-unfoldable pub judge_kdmv_start : List ℕ → HeaderAnswer
-judge_kdmv_start s = pick (ltb (length s) 512) (Refused TooShort)
-    (unless_fault (kdmv_fault (kdmv_fields s)) (Known (start_of s)))
+unfoldable pub judge_kdmv_start : List ℕ → Result Header Refusal
+judge_kdmv_start s = pick (ltb (length s) 512) (Err TooShort)
+    (unless_fault (kdmv_fault (kdmv_fields s)) (Ok (start_of s)))
 
-unfoldable pub judge_start : List ℕ → HeaderAnswer
+unfoldable pub judge_start : List ℕ → Result Header Refusal
 judge_start s =
-    pick (ltb (length s) 4) (Refused TooShort)
+    pick (ltb (length s) 4) (Err TooShort)
     (pick (same_at s 0 kdmv_magic) (judge_kdmv_start s)
-    (pick (same_at s 0 cowd_magic) (judge_cowd KdmvAlone s) (Refused Magic)))
+    (pick (same_at s 0 cowd_magic) (judge_cowd KdmvAlone s) (Err Magic)))

@@ -8,8 +8,7 @@ use Rattle.format.specs.Mend.{from_good}
 use Rattle.format.specs.declared.Taken.{Taken}
 use Rattle.format.specs.declared.Header.{Header}
 use Rattle.format.specs.declared.Side.{Side}
-use Rattle.format.specs.declared.Lowest.TheVariants.{None}
-use Rattle.format.specs.declared.HeaderAnswer.TheVariants.{Known}
+use Rattle.std.specs.Prelude.{Ok, None}
 
 -- 6, of the sizes alone: nothing that is computed from them can wrap
 pub record Sized (capacity grain_size : ℕ) : Type 0 where
@@ -35,7 +34,7 @@ pub record Placed (s : List ℕ) (h : Header) : Type 0 where
 pub record Sided (s : List ℕ) (g : Header) : Type 0 where
   pub side : Side
   pub header : Header
-  pub judged : judge s ≡ Known header
+  pub judged : judge s ≡ Ok header
   pub kept : misplaced s header ≡ false
   pub two : header.redundant ≡ 0 → ⊥
   pub is : g ≡ from_good side header
@@ -47,7 +46,7 @@ pub record Filed (s : List ℕ) (h : Header) : Type 0 where
 
 -- 1 to 11: nothing but 12 is left of the check
 pub record Unmarked (taken : Taken) (s : List ℕ) (h : Header) : Type 0 where
-  pub judged : judge_of taken s ≡ Known h
+  pub judged : judge_of taken s ≡ Ok h
   pub filed : Filed s h
   pub left : check_of taken s ≡ check_apart s h
 

@@ -7,9 +7,9 @@ use Rattle.base.specs.Strings.{same_at}
 use Rattle.base.specs.Bytes.{zeros}
 use Rattle.format.specs.Geometry.{file_sectors, bytes_at}
 use Rattle.format.specs.declared.KdmvFields.{KdmvFields}
-use Rattle.format.specs.declared.Fault.{Fault}
-use Rattle.format.specs.declared.Fault.TheVariants.{None, Found}
 use Rattle.format.specs.declared.Refusal.TheVariants.{Version, Newline, Flags, Sizes}
+use Rattle.std.specs.Prelude.{Result, Ok, Err}
+use Rattle.format.specs.declared.Refusal.{Refusal}
 
 abbrev pub kdmv_magic : List ℕ
 kdmv_magic = 0x4b ∷ 0x44 ∷ 0x4d ∷ 0x56 ∷ []
@@ -85,11 +85,11 @@ kdmv_sizes_broken k =
     capacity_broken k.capacity || (grain_size_broken 8 k.grain_size || not (eqb k.entries_per_table 512))
 
 -- the first of 3 to 6 that is broken
-unfoldable pub kdmv_fault : KdmvFields → Fault
+unfoldable pub kdmv_fault : KdmvFields → Result (Unit {0}) Refusal
 kdmv_fault k =
-    pick (version_broken k) (Found Version)
-    (pick (newline_broken k) (Found Newline)
-    (pick (flags_broken k) (Found Flags) (pick (kdmv_sizes_broken k) (Found Sizes) None)))
+    pick (version_broken k) (Err Version)
+    (pick (newline_broken k) (Err Newline)
+    (pick (flags_broken k) (Err Flags) (pick (kdmv_sizes_broken k) (Err Sizes) (Ok tt))))
 
 -- ---- 7: the footer, sector F-2, and the last sector, F-1. Both count only where F is at least 4
 abbrev pub footer_at : List ℕ → ℕ

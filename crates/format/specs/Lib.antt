@@ -17,6 +17,7 @@ pub mod Profile
 pub mod Stream
 pub mod Tail
 pub mod Close
+pub mod AnswerParts
 pub mod Answers
 pub mod Way
 pub mod Survey

@@ -16,12 +16,9 @@ use Rattle.format.specs.declared.Side.TheVariants.{Primary, Redundant}
 use Rattle.format.specs.declared.Entry.{Entry}
 use Rattle.format.specs.declared.Entry.TheVariants.{Absent, Zero, Sector}
 use Rattle.format.specs.declared.Refusal.TheVariants.{Misplaced, NotMendable, TooLittleRoom}
-use Rattle.format.specs.declared.HeaderAnswer.{HeaderAnswer}
-use Rattle.format.specs.declared.HeaderAnswer.TheVariants.{Known, Refused as header_refused}
-use Rattle.format.specs.declared.CheckAnswer.{CheckAnswer}
-use Rattle.format.specs.declared.CheckAnswer.TheVariants.{Accepted, Refused as check_refused}
-use Rattle.format.specs.declared.MendAnswer.{MendAnswer}
-use Rattle.format.specs.declared.MendAnswer.TheVariants.{Mended, Refused}
+use Rattle.std.specs.Prelude.{Result, Ok, Err}
+use Rattle.format.specs.declared.Shape.{Shape}
+use Rattle.format.specs.declared.Refusal.{Refusal}
 
 -- ---- the sides
 -- a header as read from the good side: its directory is the good one, and its redundant directory the other
@@ -94,9 +91,9 @@ areas_kept_apart s g =
     header_area g
     ++ (directory_area g ++ (redundant_area g ++ (primary_tables s g ++ (redundant_tables s g ++ footer_area s g))))
 
-unfoldable pub is_refused : CheckAnswer → Bool
-is_refused (Accepted capacity grain_size) = false
-is_refused (check_refused r) = true
+unfoldable pub is_refused : Result Shape Refusal → Bool
+is_refused (Ok sizes) = false
+is_refused (Err r) = true
 
 -- not the same places; two of those areas meet; the changed image would be refused
 unfoldable pub unmendable : List ℕ → Header → Bool
@@ -123,26 +120,26 @@ abbrev pub changes : List ℕ → Header → List ℕ
 changes s g = rows (grains_of g) (change_at s g)
 
 -- ---- the answer, where the list has `room` words: 1 to 8 as the check has them, 40, then 21. Three words are a change
-unfoldable pub mended_if_room : ℕ → List ℕ → MendAnswer
-mended_if_room room words = pick (ltb room (length words)) (Refused TooLittleRoom) (Mended (length words / 3))
+unfoldable pub mended_if_room : ℕ → List ℕ → Result ℕ Refusal
+mended_if_room room words = pick (ltb room (length words)) (Err TooLittleRoom) (Ok (length words / 3))
 
-unfoldable pub mend_good : List ℕ → Header → ℕ → MendAnswer
-mend_good s g room = pick (unmendable s g) (Refused NotMendable) (mended_if_room room (changes s g))
+unfoldable pub mend_good : List ℕ → Header → ℕ → Result ℕ Refusal
+mend_good s g room = pick (unmendable s g) (Err NotMendable) (mended_if_room room (changes s g))
 
 -- 40 also where there is no redundant directory
-unfoldable pub mend_from : List ℕ → Side → ℕ → HeaderAnswer → MendAnswer
-mend_from s side room (header_refused r) = Refused r
-mend_from s side room (Known h) =
-    pick (misplaced s h) (Refused (Misplaced (lowest_misplaced s h)))
-    (pick (eqb h.redundant 0) (Refused NotMendable) (mend_good s (from_good side h) room))
+unfoldable pub mend_from : List ℕ → Side → ℕ → Result Header Refusal → Result ℕ Refusal
+mend_from s side room (Err r) = Err r
+mend_from s side room (Ok h) =
+    pick (misplaced s h) (Err (Misplaced (lowest_misplaced s h)))
+    (pick (eqb h.redundant 0) (Err NotMendable) (mend_good s (from_good side h) room))
 
-abbrev pub mend : List ℕ → Side → ℕ → MendAnswer
+abbrev pub mend : List ℕ → Side → ℕ → Result ℕ Refusal
 mend s side room = mend_from s side room (judge s)
 
 -- ---- the lent image and the lent list: on a refusal all that they held
-unfoldable pub after_mend : MendAnswer → List ℕ → List ℕ → List ℕ
-after_mend (Mended count) after before = after
-after_mend (Refused r) after before = before
+unfoldable pub after_mend : Result ℕ Refusal → List ℕ → List ℕ → List ℕ
+after_mend (Ok count) after before = after
+after_mend (Err r) after before = before
 
 abbrev pub mended_image : List ℕ → Side → List ℕ → List ℕ
 mended_image s side list = after_mend (mend s side (length list)) (mended s (from_good side (header_of s))) s

@@ -14,8 +14,8 @@ use Rattle.format.specs.declared.Header.{Header}
 use Rattle.format.specs.declared.Entry.{Entry}
 use Rattle.format.specs.declared.Entry.TheVariants.{Absent, Zero, Sector}
 use Rattle.format.specs.declared.Refusal.TheVariants.{NotCollapsible, StillOpen, NotMovable}
-use Rattle.format.specs.declared.CollapseAnswer.{CollapseAnswer}
-use Rattle.format.specs.declared.CollapseAnswer.TheVariants.{Refused}
+use Rattle.std.specs.Prelude.{Result, Err}
+use Rattle.format.specs.declared.Refusal.{Refusal}
 
 -- ---- the image: the layout of a kind, of an image's capacity, grain size and map. As KDMV it is document 01's normal form
 abbrev pub laid_as : Kind → Header → Map → List ℕ
@@ -58,14 +58,14 @@ not_movable kind s h = ltb h.grain_size 8 || zero_lost kind s h
 
 -- ---- the answer, where the output has `room` bytes
 -- where the image is accepted: 23, 27, 44, 21
-unfoldable pub move_from : Kind → List ℕ → Header → Map → ℕ → CollapseAnswer
+unfoldable pub move_from : Kind → List ℕ → Header → Map → ℕ → Result ℕ Refusal
 move_from kind s h m room =
-    pick (not_taken kind h) (Refused NotCollapsible)
-    (pick (still_open h) (Refused StillOpen)
-    (pick (not_movable kind s h) (Refused NotMovable) (written_if_room room (laid_length_as kind h m))))
+    pick (not_taken kind h) (Err NotCollapsible)
+    (pick (still_open h) (Err StillOpen)
+    (pick (not_movable kind s h) (Err NotMovable) (written_if_room room (laid_length_as kind h m))))
 
 -- the image's check, which here takes either kind, 23, 27, 44, 21
-abbrev pub move_to : Kind → List ℕ → ℕ → CollapseAnswer
+abbrev pub move_to : Kind → List ℕ → ℕ → Result ℕ Refusal
 move_to kind s room = if_accepted (check_of Either s) (move_from kind s (header_of s) (map_of s) room)
 
 -- ---- the output: the image from its start on, and what it held past that; on a refusal all that it held
@@ -73,13 +73,13 @@ abbrev pub move_output : Kind → List ℕ → List ℕ → List ℕ
 move_output kind s out = output (move_to kind s (length out)) (form_as kind s) out
 
 -- ---- the two calls
-abbrev pub to_kdmv : List ℕ → ℕ → CollapseAnswer
+abbrev pub to_kdmv : List ℕ → ℕ → Result ℕ Refusal
 to_kdmv s room = move_to Kdmv s room
 
 abbrev pub to_kdmv_output : List ℕ → List ℕ → List ℕ
 to_kdmv_output s out = move_output Kdmv s out
 
-abbrev pub to_cowd : List ℕ → ℕ → CollapseAnswer
+abbrev pub to_cowd : List ℕ → ℕ → Result ℕ Refusal
 to_cowd s room = move_to Cowd s room
 
 abbrev pub to_cowd_output : List ℕ → List ℕ → List ℕ

@@ -6,8 +6,10 @@ use Rattle.format.specs.Check.{check}
 use Rattle.format.specs.Collapse.{normal_form, not_collapsible, still_open}
 use Rattle.format.specs.declared.Header.{Header}
 use Rattle.format.specs.declared.Refusal.TheVariants.{NotCollapsible, StillOpen, NotNormal, ProfileSizes}
-use Rattle.format.specs.declared.CheckAnswer.{CheckAnswer}
-use Rattle.format.specs.declared.CheckAnswer.TheVariants.{Accepted, Refused}
+use Rattle.std.specs.Prelude.{Result, Ok, Err}
+use Rattle.format.specs.declared.Shape.{Shape}
+use Rattle.format.specs.declared.Refusal.{Refusal}
+use Rattle.format.specs.AnswerParts.{accepted_as}
 
 -- ---- two files
 -- every byte and the length
@@ -29,21 +31,21 @@ abbrev pub profile_sizes_broken : Header → Bool
 profile_sizes_broken h = not (eqb h.grain_size 128) || not (eqb (h.capacity % 128) 0)
 
 -- 42, with its place, where an image and its normal form are not the same file
-unfoldable pub profile_form : Header → List ℕ → List ℕ → CheckAnswer
+unfoldable pub profile_form : Header → List ℕ → List ℕ → Result Shape Refusal
 profile_form h image form =
-    pick (same_file image form) (Accepted h.capacity h.grain_size) (Refused (NotNormal (first_difference image form)))
+    pick (same_file image form) (accepted_as h.capacity h.grain_size) (Err (NotNormal (first_difference image form)))
 
 -- where the image is accepted: 23, 27, 47, 42
-unfoldable pub profile_from : Header → List ℕ → List ℕ → CheckAnswer
+unfoldable pub profile_from : Header → List ℕ → List ℕ → Result Shape Refusal
 profile_from h image form =
-    pick (not_collapsible h) (Refused NotCollapsible)
-    (pick (still_open h) (Refused StillOpen)
-    (pick (profile_sizes_broken h) (Refused ProfileSizes) (profile_form h image form)))
+    pick (not_collapsible h) (Err NotCollapsible)
+    (pick (still_open h) (Err StillOpen)
+    (pick (profile_sizes_broken h) (Err ProfileSizes) (profile_form h image form)))
 
-unfoldable pub profile_if_accepted : CheckAnswer → CheckAnswer → CheckAnswer
-profile_if_accepted (Refused r) a = Refused r
-profile_if_accepted (Accepted capacity grain_size) a = a
+unfoldable pub profile_if_accepted : Result Shape Refusal → Result Shape Refusal → Result Shape Refusal
+profile_if_accepted (Err r) a = Err r
+profile_if_accepted (Ok sizes) a = a
 
 -- the image's check, 23, 27, 47, 42
-abbrev pub profile : List ℕ → CheckAnswer
+abbrev pub profile : List ℕ → Result Shape Refusal
 profile s = profile_if_accepted (check s) (profile_from (header_of s) s (normal_form s))

@@ -13,11 +13,9 @@ use Rattle.format.specs.declared.Source.{Source}
 use Rattle.format.specs.declared.Source.TheVariants.{Absent, Zero, Stored, Packed}
 use Rattle.format.specs.declared.MisplacedPart.TheVariants.{Directory, PrimaryTable}
 use Rattle.format.specs.declared.Refusal.TheVariants.{Misplaced, GrainPast, Marker, SectorPast}
-use Rattle.format.specs.declared.HeaderAnswer.{HeaderAnswer}
-use Rattle.format.specs.declared.HeaderAnswer.TheVariants.{Known, Refused as header_refused}
 use Rattle.format.specs.declared.numbers.Part.{Part}
-use Rattle.format.specs.declared.LookupAnswer.{LookupAnswer}
-use Rattle.format.specs.declared.LookupAnswer.TheVariants.{Found, Refused}
+use Rattle.std.specs.Prelude.{Result, Ok, Err}
+use Rattle.format.specs.declared.Refusal.{Refusal}
 
 -- ---- the one source that the layout gives: sector x of grain g, with o = x mod grain size
 -- stored at file sector entry + o; or packed, with marker sector, size and o
@@ -34,35 +32,35 @@ source_of s h x = entry_source s h.packed (x % h.grain_size) (grain_entry s h (x
 
 -- ---- the lookup: 1 to 7 and 43, 20, then of 8 to 10 only directory sector 0 and the whole directory, and the table and the
 -- grain that x leads to
-unfoldable pub lookup_grain : List ℕ → Header → ℕ → ℕ → ℕ → LookupAnswer
+unfoldable pub lookup_grain : List ℕ → Header → ℕ → ℕ → ℕ → Result Source Refusal
 lookup_grain s h g o e =
-    pick (ends_past (file_sectors s) (area e (grain_sectors s h.packed h.grain_size e))) (Refused (GrainPast g))
-    (pick (h.packed && marker_broken s h.grain_size g e) (Refused (Marker g)) (Found (grain_source s h.packed o e)))
+    pick (ends_past (file_sectors s) (area e (grain_sectors s h.packed h.grain_size e))) (Err (GrainPast g))
+    (pick (h.packed && marker_broken s h.grain_size g e) (Err (Marker g)) (Ok (grain_source s h.packed o e)))
 
-unfoldable pub lookup_entry : List ℕ → Header → ℕ → ℕ → Entry → LookupAnswer
-lookup_entry s h g o no_entry = Found Absent
-lookup_entry s h g o zero_entry = Found Zero
+unfoldable pub lookup_entry : List ℕ → Header → ℕ → ℕ → Entry → Result Source Refusal
+lookup_entry s h g o no_entry = Ok Absent
+lookup_entry s h g o zero_entry = Ok Zero
 lookup_entry s h g o (Sector e) = lookup_grain s h g o e
 
-unfoldable pub lookup_table : List ℕ → Header → ℕ → ℕ → Entry → LookupAnswer
-lookup_table s h g o no_entry = Found Absent
-lookup_table s h g o zero_entry = Found Zero
+unfoldable pub lookup_table : List ℕ → Header → ℕ → ℕ → Entry → Result Source Refusal
+lookup_table s h g o no_entry = Ok Absent
+lookup_table s h g o zero_entry = Ok Zero
 lookup_table s h g o (Sector t) =
-    pick (ends_past (file_sectors s) (area t h.table_sectors)) (Refused (Misplaced PrimaryTable))
+    pick (ends_past (file_sectors s) (area t h.table_sectors)) (Err (Misplaced PrimaryTable))
     (lookup_entry s h g o (meaning_at s h.one_is_zero t (g % h.entries_per_table)))
 
-unfoldable pub lookup_in : List ℕ → Header → ℕ → LookupAnswer
+unfoldable pub lookup_in : List ℕ → Header → ℕ → Result Source Refusal
 lookup_in s h x =
     let g = x / h.grain_size in
-    pick (leb h.capacity x) (Refused SectorPast)
-    (pick (directory_misplaced (file_sectors s) h) (Refused (Misplaced Directory))
+    pick (leb h.capacity x) (Err SectorPast)
+    (pick (directory_misplaced (file_sectors s) h) (Err (Misplaced Directory))
     (lookup_table s h g (x % h.grain_size) (meaning_at s h.one_is_zero h.directory (g / h.entries_per_table))))
 
-unfoldable pub lookup_from : List ℕ → ℕ → HeaderAnswer → LookupAnswer
-lookup_from s x (header_refused r) = Refused r
-lookup_from s x (Known h) = lookup_in s h x
+unfoldable pub lookup_from : List ℕ → ℕ → Result Header Refusal → Result Source Refusal
+lookup_from s x (Err r) = Err r
+lookup_from s x (Ok h) = lookup_in s h x
 
-abbrev pub sector_lookup : List ℕ → ℕ → LookupAnswer
+abbrev pub sector_lookup : List ℕ → ℕ → Result Source Refusal
 sector_lookup s x = lookup_from s x (judge s)
 
 -- ---- the grain reader: 512 bytes for stored, the payload after the 12 marker bytes for packed, else nothing
@@ -73,9 +71,9 @@ source_part Zero = record { at = 0; length = 0 }
 source_part (Stored sector) = record { at = 512 * sector; length = 512 }
 source_part (Packed marker size o) = record { at = 512 * marker + 12; length = size }
 
-abbrev pub answer_part : LookupAnswer → Part
-answer_part (Found source) = source_part source
-answer_part (Refused r) = record { at = 0; length = 0 }
+abbrev pub answer_part : Result Source Refusal → Part
+answer_part (Ok source) = source_part source
+answer_part (Err r) = record { at = 0; length = 0 }
 
 -- the bytes themselves
 abbrev pub part_bytes : List ℕ → Part → List ℕ
@@ -84,7 +82,7 @@ part_bytes s p = bytes_at s p.at p.length
 unfoldable pub source_bytes : List ℕ → Source → List ℕ
 source_bytes s source = part_bytes s (source_part source)
 
-unfoldable pub answer_bytes : List ℕ → LookupAnswer → List ℕ
+unfoldable pub answer_bytes : List ℕ → Result Source Refusal → List ℕ
 answer_bytes s a = part_bytes s (answer_part a)
 
 abbrev pub read : List ℕ → ℕ → List ℕ

@@ -13,11 +13,10 @@ use Rattle.format.specs.declared.Row.{Row}
 use Rattle.format.specs.declared.Totals.{Totals}
 use Rattle.format.specs.declared.Entry.{Entry}
 use Rattle.format.specs.declared.Entry.TheVariants.{Absent, Zero, Sector}
-use Rattle.format.specs.declared.CheckAnswer.{CheckAnswer}
-use Rattle.format.specs.declared.CheckAnswer.TheVariants.{Accepted, Refused as check_refused}
 use Rattle.format.specs.declared.Refusal.TheVariants.{TooLittleRoom, LayerLengths}
-use Rattle.format.specs.declared.SurveyAnswer.{SurveyAnswer}
-use Rattle.format.specs.declared.SurveyAnswer.TheVariants.{Surveyed, Refused}
+use Rattle.std.specs.Prelude.{Result, Ok, Err}
+use Rattle.format.specs.declared.Shape.{Shape}
+use Rattle.format.specs.declared.Refusal.{Refusal}
 
 -- ---- the kind of a grain by the entry table, numbered as the lookup's answer numbers it: 0 absent, 1 zero, 2 stored, 3 packed
 unfoldable pub entry_kind : Bool → Entry → ℕ
@@ -37,8 +36,8 @@ abbrev pub grains_of_kind : List ℕ → Header → ℕ → ℕ
 grains_of_kind s h kind = count_of (grain_kind s h) kind (grains_of h)
 
 -- ---- the row of an image: four zeros, its number and place where the check refuses it
-unfoldable pub row_from : List ℕ → Header → CheckAnswer → Row
-row_from s h (Accepted capacity grain_size) =
+unfoldable pub row_from : List ℕ → Header → Result Shape Refusal → Row
+row_from s h (Ok sizes) =
     record {
       stored = grains_of_kind s h 2;
       zero = grains_of_kind s h 1;
@@ -47,7 +46,7 @@ row_from s h (Accepted capacity grain_size) =
       number = 0;
       place = 0;
     }
-row_from s h (check_refused r) =
+row_from s h (Err r) =
     record { stored = 0; zero = 0; absent = 0; packed = 0; number = number r; place = place r }
 
 abbrev pub row_of : List ℕ → Row
@@ -83,19 +82,19 @@ totals_below images lengths zero = record { stored = 0; zero = 0; absent = 0; pa
 totals_below images lengths (suc n) = add_row (totals_below images lengths n) (row_at images lengths n)
 
 -- ---- the answer, where the lists have so many words: 24, with 1,024 images at most, then 21
-unfoldable pub surveyed_if_room : List ℕ → List ℕ → ℕ → ℕ → SurveyAnswer
+unfoldable pub surveyed_if_room : List ℕ → List ℕ → ℕ → ℕ → Result Totals Refusal
 surveyed_if_room images lengths rows_room tally_room =
-    pick (ltb rows_room (6 * length lengths) || ltb tally_room 63) (Refused TooLittleRoom)
-    (Surveyed (totals_below images lengths (length lengths)))
+    pick (ltb rows_room (6 * length lengths) || ltb tally_room 63) (Err TooLittleRoom)
+    (Ok (totals_below images lengths (length lengths)))
 
-unfoldable pub survey : List ℕ → List ℕ → ℕ → ℕ → SurveyAnswer
+unfoldable pub survey : List ℕ → List ℕ → ℕ → ℕ → Result Totals Refusal
 survey images lengths rows_room tally_room =
-    pick (lengths_broken 1024 images lengths) (Refused LayerLengths) (surveyed_if_room images lengths rows_room tally_room)
+    pick (lengths_broken 1024 images lengths) (Err LayerLengths) (surveyed_if_room images lengths rows_room tally_room)
 
 -- ---- the lent lists: the words from their start on, and what they held past them; on a refusal all that they held
-unfoldable pub after_survey : SurveyAnswer → List ℕ → List ℕ → List ℕ
-after_survey (Surveyed t) words list = over list 0 words
-after_survey (Refused r) words list = list
+unfoldable pub after_survey : Result Totals Refusal → List ℕ → List ℕ → List ℕ
+after_survey (Ok t) words list = over list 0 words
+after_survey (Err r) words list = list
 
 abbrev pub survey_rows : List ℕ → List ℕ → List ℕ → List ℕ → List ℕ
 survey_rows images lengths row_list tally =

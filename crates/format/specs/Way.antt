@@ -12,10 +12,10 @@ use Rattle.format.specs.Answers.{steps_numbers}
 use Rattle.format.specs.declared.Header.{Header}
 use Rattle.format.specs.declared.Entry.{Entry}
 use Rattle.format.specs.declared.Entry.TheVariants.{Absent, Zero, Sector}
-use Rattle.format.specs.declared.HeaderAnswer.{HeaderAnswer}
-use Rattle.format.specs.declared.HeaderAnswer.TheVariants.{Known, Refused}
 use Rattle.format.specs.declared.steps.Way.{Way}
 use Rattle.format.specs.declared.steps.Steps.{Steps}
+use Rattle.std.specs.Prelude.{Result, Ok, Err}
+use Rattle.format.specs.declared.Refusal.{Refusal}
 
 -- ---- how far the lookup comes
 -- 1 to 7, 43 and 20: nothing is told
@@ -80,9 +80,9 @@ way_in s h x =
     (pick (directory_misplaced (file_sectors s) h) (to_grain h g)
     (way_table s h g (meaning_at s h.one_is_zero h.directory (g / h.entries_per_table))))
 
-unfoldable pub way_from : List ℕ → ℕ → HeaderAnswer → Way
-way_from s x (Refused r) = no_way
-way_from s x (Known h) = way_in s h x
+unfoldable pub way_from : List ℕ → ℕ → Result Header Refusal → Way
+way_from s x (Err r) = no_way
+way_from s x (Ok h) = way_in s h x
 
 abbrev pub way : List ℕ → ℕ → Way
 way s x = way_from s x (judge s)

@@ -1,6 +1,4 @@
 // A download that broke off: what stands in it, and what closing it answers.
-use crate::Refusal;
-
 // What stands at a sector of a stream.
 #[derive(Clone, Copy)]
 pub enum Block {
@@ -10,15 +8,12 @@ pub enum Block {
     Grain { number: u64, sectors: u64 },
 }
 
+// What closing a stream comes to: kept sectors, kept grains, and the tail's length in bytes.
 #[derive(Clone, Copy)]
-pub enum CloseAnswer {
-    // Kept sectors, kept grains, and the tail's length in bytes.
-    Closed {
-        sectors: u64,
-        grains: u64,
-        length: u64,
-    },
-    Refused(Refusal),
+pub struct Kept {
+    pub sectors: u64,
+    pub grains: u64,
+    pub length: u64,
 }
 
 // The same in numbers: number 0 is an answer, and what does not apply is 0.

@@ -2,8 +2,10 @@
 #![tactic(auto)]
 
 pub mod closing;
+mod located;
 pub mod numbers;
 pub mod steps;
+mod told;
 
 pub use numbers::{Framed, Head, Located, Marked, Mended, Part, Surveyed, Verdict, Written};
 
@@ -121,26 +123,12 @@ pub enum Side {
     Redundant,
 }
 
-// What judging a part of an image finds.
-#[derive(Clone, Copy)]
-pub enum Fault {
-    None,
-    Found(Refusal),
-}
-
 // What an entry of a directory or table means.
 #[derive(Clone, Copy)]
 pub enum Entry {
     Absent,
     Zero,
     Sector(u64),
-}
-
-// The lowest grain that breaks a rule, or none.
-#[derive(Clone, Copy)]
-pub enum Lowest {
-    None,
-    Grain(u64),
 }
 
 // Where a virtual sector comes from.
@@ -180,61 +168,23 @@ pub struct Row {
     pub place: u64,
 }
 
-// What each call answers.
+// What the check of an accepted image answers.
 #[derive(Clone, Copy)]
-pub enum HeaderAnswer {
-    Known(Header),
-    Refused(Refusal),
+pub struct Shape {
+    pub capacity: u64,
+    pub grain_size: u64,
 }
 
+// Why a call on a chain refuses, and at which layer.
 #[derive(Clone, Copy)]
-pub enum CheckAnswer {
-    Accepted { capacity: u64, grain_size: u64 },
-    Refused(Refusal),
-}
-
-#[derive(Clone, Copy)]
-pub enum LookupAnswer {
-    Found(Source),
-    Refused(Refusal),
-}
-
-#[derive(Clone, Copy)]
-pub enum ChainAnswer {
-    Found(LayerSource),
-    Refused { layer: u64, refusal: Refusal },
-}
-
-#[derive(Clone, Copy)]
-pub enum CollapseAnswer {
-    // The result's length in bytes.
-    Written(u64),
-    Refused(Refusal),
-}
-
-#[derive(Clone, Copy)]
-pub enum FrameAnswer {
-    // How many areas the list tells of.
-    Listed(u64),
-    Refused(Refusal),
-}
-
-#[derive(Clone, Copy)]
-pub enum SurveyAnswer {
-    Surveyed(Totals),
-    Refused(Refusal),
-}
-
-#[derive(Clone, Copy)]
-pub enum MendAnswer {
-    // How many entries differed.
-    Mended(u64),
-    Refused(Refusal),
+pub struct LayerRefusal {
+    pub layer: u64,
+    pub refusal: Refusal,
 }
 
 // The check in a lent list: its answer, and how many sectors it marked.
 #[derive(Clone, Copy)]
 pub struct MarkedAnswer {
-    pub checked: CheckAnswer,
+    pub checked: Result<Shape, Refusal>,
     pub marked: u64,
 }

@@ -1,13 +1,15 @@
 -- Words put one after the other: each premise as the code gives it.
 use Prim.Native.Nat.{ℕ, ◌+◌, ◌*◌, ◌≤◌}
 use mathlib.Core.Path.{◌≡◌, refl, sym, ap, ◌∙◌}
-use mathlib.Core.List.{List, [], ◌∷◌, ◌++◌, append_assoc, append-nil}
+use mathlib.Core.List.{List, [], ◌∷◌, ◌++◌, append_assoc}
 use mathlib.Core.Bool.{Bool, true, false}
 use native.Mathlib.Omega.{arith}
 use native.Mathlib.Nat.{add-zero}
 use lib.ListN.{length, length-append}
+use lib.Seq.{drop-drop}
+use borrow.Rule.Slice.PartMut.{put_mid}
 use Rattle.base.specs.Bytes.{over}
-use Rattle.base.proofs.Over.{over_none, over_length, over_sets, first, last}
+use Rattle.base.proofs.Over.{over_none, over_length, first, last}
 use Rattle.base.specs.Pick.{pick}
 use Rattle.format.specs.Areas.{Area, area, if_there, named}
 use Rattle.format.specs.Frame.{told_area, told}
@@ -18,6 +20,11 @@ use Rattle.framing.specs.WordsPut.{WordsPut}
 -- nothing is put
 pub put_none : (d : List ℕ) (at : ℕ) → WordsPut [] d at d at
 put_none d at = record { words = over_none d at; next = sym (add-zero at) }
+
+-- a part of the list is written
+pub put_part : (d ws ys : List ℕ) (at n : ℕ) → ys ≡ ws → n ≡ length ws → put_mid at n d ys ≡ over d at ws
+unfolding over
+put_part d ws ys at n e q = rw (e, q) (simp (append_assoc, drop-drop))
 
 -- one after the other
 pub put_more : {ws vs d x y : List ℕ} {at m r : ℕ} → at + length (ws ++ vs) ≤ length d → WordsPut ws d at x m

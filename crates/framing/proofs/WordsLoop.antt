@@ -1,6 +1,6 @@
 -- Rows of areas put one after the other: each premise as the loop gives it.
 use Prim.Native.Nat.{ℕ, zero, suc, ◌+◌, ◌≤◌, ◌<◌}
-use mathlib.Core.Path.{◌≡◌, refl, sym}
+use mathlib.Core.Path.{◌≡◌, refl}
 use mathlib.Core.Logic.{⊎_elim}
 use mathlib.Core.List.{List, ◌++◌}
 use native.Mathlib.Omega.{arith}
@@ -11,7 +11,7 @@ use Rattle.base.specs.Rows.{rows}
 use Rattle.format.specs.Areas.{Area}
 use Rattle.format.specs.Frame.{told}
 use Rattle.framing.specs.WordsPut.{WordsPut}
-use Rattle.framing.proofs.WordsLaws.{put_none, put_more, put_length, put_nothing, told_append, told_long}
+use Rattle.framing.proofs.WordsLaws.{put_more, put_length, put_nothing, told_append, told_long}
 
 rows_long : (p : ℕ → List Area) (m n : ℕ) → m ≤ n → length (rows m p) ≤ length (rows n p)
 unfolding rows

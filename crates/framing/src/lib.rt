@@ -12,15 +12,21 @@ use entries::{before_end, meaning_at};
 use format::{Entry, Header};
 use sizes::directory_entries;
 
+// Three words, and where the next ones go.
+pub fn put_words(list: &mut [u64], at: usize, first: u64, second: u64, third: u64) -> usize
+    requires { at + 3 ≤ length list.old }
+    ensures { WordsPut (first ∷ second ∷ third ∷ []) list.old at list.new result }
+{
+    list[at..at + 3].copy_from_slice(&[first, second, third]);
+    at + 3
+}
+
 // One area, and where the next one goes.
 fn put(list: &mut [u64], at: usize, group: u64, first: u64, sectors: u64) -> usize
     requires { at + length (told group (area first sectors ∷ [])) ≤ length list.old }
     ensures { WordsPut (told group (area first sectors ∷ [])) list.old at list.new result }
 {
-    list[at] = group;
-    list[at + 1] = first;
-    list[at + 2] = sectors;
-    at + 3
+    put_words(&mut *list, at, group, first, sectors)
 }
 
 // An area that an image may have.
@@ -40,8 +46,7 @@ fn put_named(list: &mut [u64], at: usize, group: u64, sectors: u64, entry: Entry
     ensures { WordsPut (told group (named (λ e. sectors) entry)) list.old at list.new result }
 {
     match entry {
-        Entry::Absent => at,
-        Entry::Zero => at,
+        Entry::Absent | Entry::Zero => at,
         Entry::Sector(t) => put(&mut *list, at, group, t, sectors),
     }
 }
@@ -64,11 +69,9 @@ fn put_tables(
         list.new result }
 {
     let mut next = at;
-    let mut d: u64 = 0;
-    while d < n {
+    for d in 0..n {
         let entry = meaning_at(image, one_is_zero, directory, d);
         next = put_named(&mut *list, next, group, sectors, entry);
-        d += 1;
     }
     next
 }

@@ -20,13 +20,13 @@ fn put_front(out: &mut [u8], capacity: u64, size: u64)
     ensures { out.new ≡ over out.old 0 (header_front capacity size) }
 {
     base::copy(&mut *out, 0, b"KDMV", 4);
-    base::put_u32(&mut *out, 4, 2);
-    base::put_u32(&mut *out, 8, 5);
-    base::put_u64(&mut *out, 12, capacity);
-    base::put_u64(&mut *out, 20, size);
-    base::put_u64(&mut *out, 28, 0);
-    base::put_u64(&mut *out, 36, 0);
-    base::put_u32(&mut *out, 44, 512);
+    base::put_number::<4>(&mut *out, 4, 2);
+    base::put_number::<4>(&mut *out, 8, 5);
+    base::put_number::<8>(&mut *out, 12, capacity);
+    base::put_number::<8>(&mut *out, 20, size);
+    base::put_number::<8>(&mut *out, 28, 0);
+    base::put_number::<8>(&mut *out, 36, 0);
+    base::put_number::<4>(&mut *out, 44, 512);
 }
 
 // Redundant directory to padding.
@@ -34,9 +34,9 @@ fn put_back(out: &mut [u8], overhead: u64)
     requires { 512 ≤ length out.old }
     ensures { out.new ≡ over out.old 48 (header_back overhead) }
 {
-    base::put_u64(&mut *out, 48, 0);
-    base::put_u64(&mut *out, 56, 1);
-    base::put_u64(&mut *out, 64, overhead);
+    base::put_number::<8>(&mut *out, 48, 0);
+    base::put_number::<8>(&mut *out, 56, 1);
+    base::put_number::<8>(&mut *out, 64, overhead);
     base::fill(&mut *out, 72, 1);
     base::copy(&mut *out, 73, b"\n \r\n", 4);
     base::fill(&mut *out, 77, 435);
@@ -56,13 +56,13 @@ fn put_cowd(out: &mut [u8], capacity: u64, size: u64, n: u64, sectors: u64)
     ensures { out.new ≡ over out.old 0 (cowd_front capacity size n sectors) }
 {
     base::copy(&mut *out, 0, b"COWD", 4);
-    base::put_u32(&mut *out, 4, 1);
-    base::put_u32(&mut *out, 8, 3);
-    base::put_u32(&mut *out, 12, capacity);
-    base::put_u32(&mut *out, 16, size);
-    base::put_u32(&mut *out, 20, 4);
-    base::put_u32(&mut *out, 24, n);
-    base::put_u32(&mut *out, 28, sectors);
+    base::put_number::<4>(&mut *out, 4, 1);
+    base::put_number::<4>(&mut *out, 8, 3);
+    base::put_number::<4>(&mut *out, 12, capacity);
+    base::put_number::<4>(&mut *out, 16, size);
+    base::put_number::<4>(&mut *out, 20, 4);
+    base::put_number::<4>(&mut *out, 24, n);
+    base::put_number::<4>(&mut *out, 28, sectors);
 }
 
 fn write_cowd(out: &mut [u8], capacity: u64, size: u64, sectors: u64)
@@ -94,10 +94,8 @@ fn put_directory(out: &mut [u8], from: u64, first: u64, step: u64, n: u64)
     requires { (from + 4 * n ≤ length out.old) × (first ≤ 0x100000000) × (step ≤ 32) × (n ≤ 0x80000000) }
     ensures { out.new ≡ over out.old from (entry_bytes n (λ d. first + step * d)) }
 {
-    let mut d: u64 = 0;
-    while d < n {
-        base::put_u32(&mut *out, (from + 4 * d) as usize, first + step * d);
-        d += 1;
+    for d in 0..n {
+        base::put_number::<4>(&mut *out, (from + 4 * d) as usize, first + step * d);
     }
 }
 

@@ -9,8 +9,7 @@ use native.Mathlib.Numerals.{add-one}
 use Rattle.base.specs.Pick.{pick}
 use Rattle.base.proofs.Steps.{lt_or_ge}
 use Rattle.format.specs.Check.{lowest_from}
-use Rattle.format.specs.declared.Lowest.{Lowest}
-use Rattle.format.specs.declared.Lowest.TheVariants.{None, Grain}
+use Rattle.std.specs.Prelude.{Some, None}
 
 -- what is left equals the whole
 pub record Left (p : ℕ → Bool) (n g : ℕ) : Type 0 where
@@ -20,7 +19,7 @@ module _ (p : ℕ → Bool) (n : ℕ) where
   pub left_start : Left p n 0
   left_start = record { whole = rw sub-zero }
 
-  left_step : (g : ℕ) → g < n → lowest_from p g (n - g) ≡ pick (p g) (Grain g) (lowest_from p (g + 1) (n - (g + 1)))
+  left_step : (g : ℕ) → g < n → lowest_from p g (n - g) ≡ pick (p g) (Some g) (lowest_from p (g + 1) (n - (g + 1)))
   unfolding lowest_from
   left_step g h = let e : n - g ≡ suc (n - (g + 1)) = omega arith in rw e
 
@@ -47,7 +46,7 @@ module _ (p : ℕ → Bool) (n : ℕ) where
   pub left_more : (a k : ℕ) → Left p n (a + k) → p (a + k) ≡ false → Left p n (a + (k + 1))
   left_more a k l e = rw (← add_assoc) (left_one (a + k) l e)
 
-  pub left_here : (g : ℕ) → Left p n g → g < n → p g ≡ true → Grain g ≡ lowest_from p 0 n
+  pub left_here : (g : ℕ) → Left p n g → g < n → p g ≡ true → Some g ≡ lowest_from p 0 n
   unfolding pick
   left_here g l h e = rw (l.whole, left_step g h, e)
 
@@ -57,11 +56,11 @@ module _ (p : ℕ → Bool) (n : ℕ) where
       ⊎_elim (λ h. let q : k ≡ m = omega arith in rw (← q) l)
       (λ h. left_over (a + k) (a + m) l (omega arith) (omega arith)) (lt_or_ge m (n - a))
 
-  -- all grains
-  pub left_none : (all g : ℕ) (found : Lowest) → found ≡ None → all ≡ n → Left p all g → all ≤ g → found ≡ lowest_from p 0 n
-  unfolding lowest_from
-  left_none all g found e ea l h = e ∙ rw (← ea, l.whole, sub-eq-zero_of_le h)
+  -- a loop over its entries came to its end
+  pub left_end : (a k end : ℕ) → Left p n (a + k) → k ≤ end → end ≤ k → Left p n (a + end)
+  left_end a k end l h j = let q : k ≡ end = omega arith in rw (← q) l
 
--- nothing was found yet
-pub none_kept : (a b : Lowest) → a ≡ b → b ≡ None → a ≡ None
-none_kept a b e f = e ∙ f
+  -- all grains
+  pub left_none : (all g : ℕ) → all ≡ n → Left p all g → all ≤ g → None ≡ lowest_from p 0 n
+  unfolding lowest_from
+  left_none all g ea l h = rw (← ea, l.whole, sub-eq-zero_of_le h)

@@ -14,11 +14,11 @@ use Rattle.format.specs.Check.{grain_past, marker_broken_at, bad_marker, lowest_
 use Rattle.format.specs.declared.Header.{Header}
 use Rattle.format.specs.declared.Entry.{Entry}
 use Rattle.format.specs.declared.Entry.TheVariants.{Absent, Zero, Sector}
-use Rattle.format.specs.declared.Lowest.TheVariants.{None}
 use Rattle.format.proofs.Inside.{past_one}
 use Rattle.format.proofs.LowestGrain.{none_lowest, lowest_none}
 use Rattle.format.proofs.Picked.{and_no}
 use Rattle.entries.proofs.EntriesRead.{grain_read}
+use Rattle.std.specs.Prelude.{None}
 
 -- the rule that is judged, of grain g and its entry: 10 of markers, else 9
 abbrev pub broken : List ℕ → Bool → Bool → ℕ → ℕ → Entry → Bool

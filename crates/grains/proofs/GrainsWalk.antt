@@ -3,6 +3,7 @@ use Prim.Native.Nat.{ℕ, ◌+◌, ◌-◌, ◌*◌, ◌≤◌, ◌<◌, min}
 use mathlib.Core.Path.{◌≡◌, refl, sym, ◌∙◌}
 use mathlib.Core.List.{List}
 use mathlib.Core.Bool.{Bool, true, false, ◌&&◌}
+use mathlib.Core.Logic.{⊎_elim}
 use native.Mathlib.Omega.{arith}
 use native.Mathlib.Nat.{add_assoc}
 use lib.ListN.{length}
@@ -15,14 +16,15 @@ use Rattle.format.specs.Check.{lowest_from, grain_past}
 use Rattle.format.specs.declared.Header.{Header}
 use Rattle.format.specs.declared.Entry.{Entry}
 use Rattle.format.specs.declared.Entry.TheVariants.{Absent, Zero, Sector}
-use Rattle.format.specs.declared.Lowest.TheVariants.{Grain}
 use Rattle.format.proofs.Entries.{entry_of}
-use Rattle.format.proofs.Geometry.{table_used}
+use Rattle.format.proofs.Geometry.{table_used, entries_enough}
+use Rattle.format.proofs.NoSector.{no_sector}
 use Rattle.format.specs.Judged.{Placed}
 use Rattle.format.proofs.PlacesKept.{primary_room, table_room}
 use Rattle.blocks.specs.Blocks.{Passed}
-use Rattle.grains.proofs.GrainsLeft.{Left, left_range, left_more, left_here}
+use Rattle.grains.proofs.GrainsLeft.{Left, left_range, left_more, left_here, left_none}
 use Rattle.grains.proofs.GrainsRule.{broken, rule_of, absent_kept, zero_kept}
+use Rattle.std.specs.Prelude.{Some, None}
 
 -- the table at sector t: its entry k is that of grain first + k, for each k below used
 pub record Table (s : List ℕ) (h : Header) (all first t used : ℕ) : Type 0 where
@@ -71,17 +73,12 @@ module _ (s : List ℕ) (h : Header) (d first : ℕ) (eq : first ≡ d * h.entri
 
     -- it names no table
     module _ (markers : Bool) (all : ℕ) (l : Left (rule_of s h markers) all first) where
-      pub absent_table : table ≡ Absent → Left (rule_of s h markers) all (first + h.entries_per_table)
+      pub no_table : ((t : ℕ) → table ≡ Sector t → ⊥) → Left (rule_of s h markers) all (first + h.entries_per_table)
       unfolding in_table
-      absent_table q =
-          left_range _ all first _ l (λ k b. sym (absent_kept s markers h.packed h.grain_size _ (first + k)
-          (entry_under Absent q k b)))
-
-      pub zero_table : table ≡ Zero → Left (rule_of s h markers) all (first + h.entries_per_table)
-      unfolding in_table
-      zero_table q =
-          left_range _ all first _ l (λ k b. sym (zero_kept s markers h.packed h.grain_size _ (first + k)
-          (entry_under Zero q k b)))
+      no_table other =
+          left_range _ all first _ l (λ k b. sym (⊎_elim
+          (λ q. absent_kept s markers h.packed h.grain_size _ (first + k) (entry_under Absent q k b))
+          (λ q. zero_kept s markers h.packed h.grain_size _ (first + k) (entry_under Zero q k b)) (no_sector table other)))
 
     -- it names one
     pub table_named : (all t used : ℕ) → table ≡ Sector t → Placed s h → all ≡ grains_of h → first < all → used
@@ -116,5 +113,15 @@ module _ {s : List ℕ} {h : Header} {all first t used end k : ℕ} (n : Table s
       pub walk_more : r ≡ false → Left (rule_of s h markers) all (first + (k + 1))
       walk_more ev = left_more _ all first k l (rule_is false ev)
 
-      pub walk_here : r ≡ true → all ≡ grains_of h → Grain (first + k) ≡ lowest_from (rule_of s h markers) 0 (grains_of h)
+      pub walk_here : r ≡ true → all ≡ grains_of h → Some (first + k) ≡ lowest_from (rule_of s h markers) 0 (grains_of h)
       walk_here ev ea = rw (← ea) (left_here _ all (first + k) l (omega (arith, n.under)) (rule_is true ev))
+
+-- ---- all tables
+pub walk_none : (s : List ℕ) (h : Header) (markers : Bool) (all n d : ℕ) → Placed s h → all ≡ grains_of h
+    → n ≡ directory_entries_of h → d ≤ n → n ≤ d → Left (rule_of s h markers) all (d * h.entries_per_table)
+    → None ≡ lowest_from (rule_of s h markers) 0 (grains_of h)
+walk_none s h markers all n d p ea en l m w =
+    let z = p.sound in
+    let enough = entries_enough h.capacity h.grain_size z.sizes.low h.entries_per_table z.some in
+    let e : d ≡ directory_entries_of h = omega arith in
+    left_none _ _ all _ ea w (rw e (omega (arith, enough)))

@@ -11,8 +11,8 @@ ghost use Rattle.format.specs.Check.{lowest_from, grain_past, marker_broken_at, 
 ghost use Rattle.format.specs.Judged.{Placed, Filed};
 
 use blocks::{block_entries, past_zeros};
-use format::{Entry, Header, Lowest};
-use sizes::{entries_in_use, grains_of};
+use format::{Entry, Header};
+use sizes::{directory_entries, entries_in_use, grains_of};
 
 // Whether the grain at sector e breaks the rule that is judged: 10 of its marker, else 9. Where 10 is judged, 9 is kept, so
 // that the marker can be read.
@@ -37,15 +37,14 @@ fn entry_broken(image: &[u8], markers: bool, packed: bool, size: u64, g: u64, en
         (runs_past (file_sectors image.now) (named (grain_sectors image.now packed size) entry)) }
 {
     match entry {
-        Entry::Absent => false,
-        Entry::Zero => false,
+        Entry::Absent | Entry::Zero => false,
         Entry::Sector(e) => grain_broken(image, markers, packed, size, g, e),
     }
 }
 
 // The lowest grain that breaks the rule. A directory entry that names no table is passed over with all its grains, and so are
 // blocks of entries that are 0.
-fn lowest_broken(image: &[u8], h: Header, markers: bool) -> Lowest
+fn lowest_broken(image: &[u8], h: Header, markers: bool) -> Option<u64>
     requires placed { Placed image.now h }
     requires by_index { (g : ℕ) → g < grains_of h → (markers && grain_past image.now h g) ≡ false }
     ensures { result ≡ lowest_from (λ g. pick markers (bad_marker image.now h g) (grain_past image.now h g)) 0
@@ -53,39 +52,31 @@ fn lowest_broken(image: &[u8], h: Header, markers: bool) -> Lowest
 {
     let all = grains_of(h.capacity, h.grain_size);
     let per_table = h.entries_per_table;
-    let mut found = Lowest::None;
-    let mut d: u64 = 0;
-    let mut first: u64 = 0;
-    'dir: while first < all {
+    let n = directory_entries(h.capacity, per_table, h.grain_size);
+    for d in 0..n {
+        let first = d * per_table;
         let table = entries::meaning_at(image, h.one_is_zero, h.directory, d);
-        match table {
-            Entry::Absent => {}
-            Entry::Zero => {}
-            Entry::Sector(t) => {
-                let used = entries_in_use(per_table, all - first);
-                let mut k: u64 = 0;
-                while k < used {
-                    k = past_zeros(image, t, k, used);
-                    let end = k + block_entries(k, used);
-                    while k < end {
-                        let entry = entries::meaning_at(image, h.one_is_zero, t, k);
-                        if entry_broken(image, markers, h.packed, h.grain_size, first + k, entry) {
-                            found = Lowest::Grain(first + k);
-                            break 'dir;
-                        }
-                        k += 1;
+        if let Entry::Sector(t) = table {
+            let used = entries_in_use(per_table, all - first);
+            let mut next: u64 = 0;
+            // Leaps over blocks of zeros, which no range does.
+            while next < used {
+                let from = past_zeros(image, t, next, used);
+                next = from + block_entries(from, used);
+                for k in from..next {
+                    let entry = entries::meaning_at(image, h.one_is_zero, t, k);
+                    if entry_broken(image, markers, h.packed, h.grain_size, first + k, entry) {
+                        return Some(first + k);
                     }
                 }
             }
         }
-        d += 1;
-        first += per_table;
     }
-    found
+    None
 }
 
 // 9: the lowest grain past F.
-pub fn lowest_past(image: &[u8], h: Header) -> Lowest
+pub fn lowest_past(image: &[u8], h: Header) -> Option<u64>
     requires { Placed image.now h }
     ensures { result ≡ lowest_past image.now h }
 {
@@ -93,12 +84,12 @@ pub fn lowest_past(image: &[u8], h: Header) -> Lowest
 }
 
 // 10: the lowest packed grain whose marker is wrong. Only a packed image has markers.
-pub fn lowest_bad_marker(image: &[u8], h: Header) -> Lowest
+pub fn lowest_bad_marker(image: &[u8], h: Header) -> Option<u64>
     requires { Filed image.now h }
     ensures { result ≡ lowest_bad_marker image.now h }
 {
     if h.packed {
         return lowest_broken(image, h, true);
     }
-    Lowest::None
+    None
 }

@@ -11,12 +11,12 @@ use Rattle.format.specs.Kdmv.{kdmv_magic}
 use Rattle.format.specs.Header.{header_of, judge_of, judge, judge_start}
 use Rattle.format.specs.Judged.{Sound}
 use Rattle.format.specs.declared.Header.{Header}
-use Rattle.format.specs.declared.HeaderAnswer.{HeaderAnswer}
-use Rattle.format.specs.declared.HeaderAnswer.TheVariants.{Known}
 use Rattle.format.proofs.HeaderJudged as rules
 use Rattle.format.proofs.HeaderSound.{sound_of}
+use Rattle.std.specs.Prelude.{Result, Ok}
+use Rattle.format.specs.declared.Refusal.{Refusal}
 
-module _ (a : HeaderAnswer) (s : List ℕ) (h : Header) (e : a ≡ judge s) (q : a ≡ Known h) where
+module _ (a : Result Header Refusal) (s : List ℕ) (h : Header) (e : a ≡ judge s) (q : a ≡ Ok h) where
   pub judged_sound : Sound h
   judged_sound = sound_of s h (sym e ∙ q)
 
@@ -24,7 +24,8 @@ module _ (a : HeaderAnswer) (s : List ℕ) (h : Header) (e : a ≡ judge s) (q :
   judged_header = rules.judged_header s h (sym e ∙ q)
 
 -- of a start that is no KDMV image all that is judged of an image is
-pub not_kdmv : {b : Bool} (a : HeaderAnswer) (s : List ℕ) → a ≡ judge s → 4 ≤ length s → b ≡ same_at s 0 kdmv_magic → b ≡ false
+pub not_kdmv : {b : Bool} (a : Result Header Refusal) (s : List ℕ) → a ≡ judge s → 4 ≤ length s → b ≡ same_at s 0 kdmv_magic
+    → b ≡ false
     → a ≡ judge_start s
 unfolding judge_of judge_start pick
 not_kdmv a s e long q n = e ∙ rw (le-ltb (length s) 4 long, ← q, n)

@@ -5,14 +5,14 @@ ghost use Rattle.std.specs.Prelude.{◌≡◌};
 ghost use Rattle.format.specs.Header.{judge_of, judge, judge_start};
 ghost use Rattle.format.specs.Chain.{unlike};
 
-use format::{Header, HeaderAnswer, Refusal, Taken};
+use format::{Header, Refusal, Taken};
 
 // The header of an image of a kind that is taken, or the first of 1 to 7 that it breaks, 43 right after 2.
-pub fn judge_of(taken: Taken, image: &[u8]) -> HeaderAnswer
+pub fn judge_of(taken: Taken, image: &[u8]) -> Result<Header, Refusal>
     ensures { result ≡ judge_of taken image.now }
 {
     if image.len() < 4 {
-        return HeaderAnswer::Refused(Refusal::TooShort);
+        return Err(Refusal::TooShort);
     }
     if base::same_at(image, 0, b"KDMV") {
         return kdmv::judge(image);
@@ -20,22 +20,22 @@ pub fn judge_of(taken: Taken, image: &[u8]) -> HeaderAnswer
     if base::same_at(image, 0, b"COWD") {
         return cowd::judge(taken, image);
     }
-    HeaderAnswer::Refused(Refusal::Magic)
+    Err(Refusal::Magic)
 }
 
 // For every call but the moves: COWD is refused.
-pub fn judge(image: &[u8]) -> HeaderAnswer
+pub fn judge(image: &[u8]) -> Result<Header, Refusal>
     ensures { result ≡ judge image.now }
 {
     judge_of(Taken::KdmvAlone, image)
 }
 
 // The same of a start, which has no footer to judge: the first of 1 to 6.
-pub fn judge_start(image: &[u8]) -> HeaderAnswer
+pub fn judge_start(image: &[u8]) -> Result<Header, Refusal>
     ensures { result ≡ judge_start image.now }
 {
     if image.len() < 4 {
-        return HeaderAnswer::Refused(Refusal::TooShort);
+        return Err(Refusal::TooShort);
     }
     if base::same_at(image, 0, b"KDMV") {
         return kdmv::judge_start(image);

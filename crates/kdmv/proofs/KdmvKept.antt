@@ -15,14 +15,14 @@ use Rattle.format.specs.Kdmv.{kdmv_sizes_broken, kdmv_fault, footer_directory, f
 use Rattle.format.specs.Header.{kdmv_header, directory_of}
 use Rattle.format.specs.declared.KdmvFields.{KdmvFields}
 use Rattle.format.specs.declared.Header.{Header}
-use Rattle.format.specs.declared.Fault.{Fault}
-use Rattle.format.specs.declared.Fault.TheVariants.{None}
-use Rattle.format.specs.declared.HeaderAnswer.TheVariants.{Known}
 use Rattle.format.proofs.Picked.{none_found, true_no}
 use Rattle.format.specs.Judged.{Sized}
 use Rattle.sizes.proofs.Sizes.{sized}
+use Rattle.std.specs.Prelude.{Result, Ok}
+use Rattle.format.specs.declared.Refusal.{Refusal}
 
-pub kdmv_sized : (f : Fault) (k : KdmvFields) → f ≡ kdmv_fault k → f ≡ None → Sized k.capacity k.grain_size
+pub kdmv_sized : (f : Result (Unit {0}) Refusal) (k : KdmvFields) → f ≡ kdmv_fault k → f ≡ (Ok tt)
+    → Sized k.capacity k.grain_size
 unfolding kdmv_fault
 kdmv_sized f k q e =
     let a = none_found (version_broken k) _ _ (sym q ∙ e) in
@@ -43,12 +43,13 @@ footer_long s e f =
 
 -- the header where the directory is at the end, and where not
 module _ (s : List ℕ) (k : KdmvFields) (h : Header) where
-  pub at_end_lem : {d : ℕ} → h ≡ kdmv_header k d → d ≡ footer_directory s → k.directory ≡ all_ones → Known h
-      ≡ Known (kdmv_header k (directory_of s k))
+  pub at_end_lem : {d : ℕ} → h ≡ kdmv_header k d → d ≡ footer_directory s → k.directory ≡ all_ones
+      → ◌≡◌ {A = Result Header Refusal} (Ok h)
+      (Ok (kdmv_header k (directory_of s k)))
   unfolding directory_of pick
-  at_end_lem e q p = rw (eq-eqb _ _ p, ← q) (ap Known e)
+  at_end_lem e q p = rw (eq-eqb _ _ p, ← q) (ap Ok e)
 
-  pub not_at_end : h ≡ kdmv_header k k.directory → (k.directory ≡ all_ones → ⊥) → Known h
-      ≡ Known (kdmv_header k (directory_of s k))
+  pub not_at_end : h ≡ kdmv_header k k.directory → (k.directory ≡ all_ones → ⊥) → ◌≡◌ {A = Result Header Refusal} (Ok h)
+      (Ok (kdmv_header k (directory_of s k)))
   unfolding directory_of pick
-  not_at_end e n = rw (ne_eqb _ _ n) (ap Known e)
+  not_at_end e n = rw (ne_eqb _ _ n) (ap Ok e)

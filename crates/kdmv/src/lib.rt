@@ -10,7 +10,7 @@ ghost use Rattle.format.specs.Header.{kdmv_one_is_zero, kdmv_header, directory_o
 ghost use Rattle.format.specs.Judged.{Sized};
 
 use footer::{ALL_ONES, footer_broken, footer_directory};
-use format::{Fault, Header, HeaderAnswer, KdmvFields, Refusal};
+use format::{Header, KdmvFields, Refusal};
 use sizes::{capacity_broken, directory_entries, directory_sectors, grain_size_broken};
 
 // Flags of a KDMV header.
@@ -29,7 +29,7 @@ fn dirty(image: &[u8]) -> u64
     requires { 512 ≤ length image.now }
     ensures { result ≡ le_at image.now 72 1 }
 {
-    base::wide(image[72])
+    base::number_at::<1>(image, 72)
 }
 
 fn fields(image: &[u8]) -> KdmvFields
@@ -37,18 +37,18 @@ fn fields(image: &[u8]) -> KdmvFields
     ensures { result ≡ kdmv_fields image.now }
 {
     KdmvFields {
-        version: base::u32_at(image, 4),
-        flags: base::u32_at(image, 8),
-        capacity: base::u64_at(image, 12),
-        grain_size: base::u64_at(image, 20),
-        descriptor: base::u64_at(image, 28),
-        descriptor_sectors: base::u64_at(image, 36),
-        entries_per_table: base::u32_at(image, 44),
-        redundant: base::u64_at(image, 48),
-        directory: base::u64_at(image, 56),
+        version: base::number_at::<4>(image, 4),
+        flags: base::number_at::<4>(image, 8),
+        capacity: base::number_at::<8>(image, 12),
+        grain_size: base::number_at::<8>(image, 20),
+        descriptor: base::number_at::<8>(image, 28),
+        descriptor_sectors: base::number_at::<8>(image, 36),
+        entries_per_table: base::number_at::<4>(image, 44),
+        redundant: base::number_at::<8>(image, 48),
+        directory: base::number_at::<8>(image, 56),
         dirty: dirty(image),
         newline: base::same_at(image, 73, b"\n \r\n"),
-        compression: base::u16_at(image, 77),
+        compression: base::number_at::<2>(image, 77),
     }
 }
 
@@ -97,22 +97,22 @@ fn sizes_broken(k: KdmvFields) -> bool
 }
 
 // The first of 3 to 6 that is broken.
-fn fault(k: KdmvFields) -> Fault
+fn fault(k: KdmvFields) -> Result<(), Refusal>
     ensures { result ≡ kdmv_fault k }
 {
     if version_broken(k) {
-        return Fault::Found(Refusal::Version);
+        return Err(Refusal::Version);
     }
     if newline_broken(k) {
-        return Fault::Found(Refusal::Newline);
+        return Err(Refusal::Newline);
     }
     if flags_broken(k) {
-        return Fault::Found(Refusal::Flags);
+        return Err(Refusal::Flags);
     }
     if sizes_broken(k) {
-        return Fault::Found(Refusal::Sizes);
+        return Err(Refusal::Sizes);
     }
-    Fault::None
+    Ok(())
 }
 
 // Entry 1 means zeros only where both version and flag say so: else a damaged table would read as a blank disk.
@@ -146,45 +146,39 @@ fn header(k: KdmvFields, directory: u64) -> Header
 }
 
 // 7 is judged where the directory is at the end; then the footer's directory sector counts.
-fn with_footer(image: &[u8], k: KdmvFields) -> HeaderAnswer
+fn with_footer(image: &[u8], k: KdmvFields) -> Result<Header, Refusal>
     requires { Sized k.capacity k.grain_size }
     ensures { result ≡ with_footer image.now (at_end k) (kdmv_header k (directory_of image.now k)) }
 {
     if k.directory == ALL_ONES {
         if footer_broken(image) {
-            return HeaderAnswer::Refused(Refusal::Footer);
+            return Err(Refusal::Footer);
         }
-        return HeaderAnswer::Known(header(k, footer_directory(image)));
+        return Ok(header(k, footer_directory(image)));
     }
-    HeaderAnswer::Known(header(k, k.directory))
+    Ok(header(k, k.directory))
 }
 
 // A KDMV image: 3 to 6, then 7 where the directory is at the end.
-pub fn judge(image: &[u8]) -> HeaderAnswer
+pub fn judge(image: &[u8]) -> Result<Header, Refusal>
     ensures { result ≡ judge_kdmv image.now }
 {
     if image.len() < 512 {
-        return HeaderAnswer::Refused(Refusal::TooShort);
+        return Err(Refusal::TooShort);
     }
     let k = fields(image);
-    let found = fault(k);
-    match found {
-        Fault::Found(r) => HeaderAnswer::Refused(r),
-        Fault::None => with_footer(image, k),
-    }
+    fault(k)?;
+    with_footer(image, k)
 }
 
 // A start has no footer yet: 3 to 6 alone, and the directory sector as sector 0 has it.
-pub fn judge_start(image: &[u8]) -> HeaderAnswer
+pub fn judge_start(image: &[u8]) -> Result<Header, Refusal>
     ensures { result ≡ judge_kdmv_start image.now }
 {
     if image.len() < 512 {
-        return HeaderAnswer::Refused(Refusal::TooShort);
+        return Err(Refusal::TooShort);
     }
     let k = fields(image);
-    let found = fault(k);
-    match found {
-        Fault::Found(r) => HeaderAnswer::Refused(r),
-        Fault::None => HeaderAnswer::Known(header(k, k.directory)),
-    }
+    fault(k)?;
+    Ok(header(k, k.directory))
 }

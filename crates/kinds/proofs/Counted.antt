@@ -14,7 +14,7 @@ use Rattle.format.specs.declared.Header.{Header}
 use Rattle.format.specs.declared.Entry.{Entry}
 use Rattle.format.specs.declared.Entry.TheVariants.{Absent, Zero, Sector}
 use Rattle.format.proofs.Entries.{entry_of}
-use Rattle.format.proofs.Geometry.{table_used}
+use Rattle.format.proofs.Geometry.{first_grain, entries_enough}
 use Rattle.format.proofs.PlacesKept.{primary_room, table_room}
 use Rattle.kinds.specs.declared.Kinds.{Kinds}
 use Rattle.kinds.specs.Counting.{none, with_many, with_entries, all_of}
@@ -94,41 +94,45 @@ module _ (k : Kinds) (s : List ℕ) (one : Bool) (n : ℕ) (table : Entry) (r : 
   grains_named t q e = rw q e
 
 -- ---- directory entry d, whose first grain is d tables on
-module _ (s : List ℕ) (h : Header) (d first all : ℕ) (eq : first ≡ d * h.entries_per_table) (p : Placed s h)
-    (ea : all ≡ grains_of h) (below : first < all) where
-  in_use : d < directory_entries_of h
-  in_use =
-      let z = p.sound in
-      table_used h.capacity h.grain_size z.sizes.low h.entries_per_table z.some d (omega arith)
+module _ (s : List ℕ) (h : Header) (p : Placed s h) (all : ℕ) (ea : all ≡ grains_of h) where
+  module _ (d : ℕ) (in_use : d < directory_entries_of h) where
+    pub first_below : d * h.entries_per_table < all
+    first_below = let z = p.sound in
+        omega (arith, first_grain h.capacity h.grain_size z.sizes.low h.entries_per_table z.some d in_use)
 
-  pub directory_in : 512 * h.directory + 4 * d + 4 ≤ length s
-  directory_in = omega (arith, in_use, primary_room s h p (directory_entries_of h) refl)
+    pub directory_in : 512 * h.directory + 4 * d + 4 ≤ length s
+    directory_in = omega (arith, primary_room s h p (directory_entries_of h) refl)
 
-  module _ (table : Entry) (et : table ≡ meaning_at s h.one_is_zero h.directory d) (used : ℕ)
-      (eu : used ≡ min h.entries_per_table (all - first)) where
-    pub table_in : (t : ℕ) → table ≡ Sector t → 512 * t + 4 * used ≤ length s
-    table_in t q = omega (arith, table_room s h p (directory_entries_of h) refl d t in_use (sym et ∙ q))
+    module _ (table : Entry) (et : table ≡ meaning_at s h.one_is_zero h.directory d) (used : ℕ)
+        (eu : used ≡ min h.entries_per_table (all - d * h.entries_per_table)) where
+      pub table_in : (t : ℕ) → table ≡ Sector t → 512 * t + 4 * used ≤ length s
+      table_in t q = omega (arith, table_room s h p (directory_entries_of h) refl d t in_use (sym et ∙ q))
 
-    pub grains_room : (k : Kinds) → k ≡ with_entries none (grain_entry s h) (min first all) → all ≤ 0x80000000
-        → all_of k + used ≤ 0x80000000
-    grains_room k ek small = omega (arith, ap all_of ek ∙ entries_all none (grain_entry s h) (min first all))
+      module _ (k : Kinds) (ek : k ≡ with_entries none (grain_entry s h) (min (d * h.entries_per_table) all)) where
+        pub grains_room : all ≤ 0x80000000 → all_of k + used ≤ 0x80000000
+        grains_room small =
+            omega (arith, first_below, ap all_of ek ∙ entries_all none (grain_entry s h) (min (d * h.entries_per_table) all))
 
-    pub grains_more : (k r : Kinds) → k ≡ with_entries none (grain_entry s h) (min first all)
-        → r ≡ with_entries k (λ i. in_table s h.one_is_zero i table) used
-        → r ≡ with_entries none (grain_entry s h) (min (first + h.entries_per_table) all)
-    grains_more k r ek er =
-        let m : min first all ≡ first = omega arith in
-        let n : min (first + h.entries_per_table) all ≡ first + used = omega arith in
-        er
-        ∙ entries_same k _ (λ i. grain_entry s h (first + i)) used
-        (λ i b.
-        sym (entry_of s h.one_is_zero h.entries_per_table h.directory first d i eq (omega arith) ∙ rw (sym et)))
-        ∙ rw (ek, m, n) (entries_more none (grain_entry s h) first used)
+        pub grains_more : (r : Kinds) → r ≡ with_entries k (λ i. in_table s h.one_is_zero i table) used
+            → r ≡ with_entries none (grain_entry s h) (min ((d + 1) * h.entries_per_table) all)
+        grains_more r er =
+            let first : ℕ = d * h.entries_per_table in
+            let b = first_below in
+            let m : min first all ≡ first = omega arith in
+            let n : min ((d + 1) * h.entries_per_table) all ≡ first + used = omega arith in
+            er
+            ∙ entries_same k _ (λ i. grain_entry s h (first + i)) used
+            (λ i b.
+            sym (entry_of s h.one_is_zero h.entries_per_table h.directory first d i refl (omega arith) ∙ rw (sym et)))
+            ∙ rw (ek, m, n) (entries_more none (grain_entry s h) first used)
 
-pub grains_none : (f : ℕ → Entry) (all : ℕ) → none ≡ with_entries none f (min 0 all)
+  pub grains_all : (k : Kinds) (d : ℕ) → d ≡ directory_entries_of h
+      → k ≡ with_entries none (grain_entry s h) (min (d * h.entries_per_table) all)
+      → k ≡ with_entries none (grain_entry s h) (grains_of h)
+  grains_all k d ed ek = let z = p.sound in
+      let m : min (directory_entries_of h * h.entries_per_table) all ≡ grains_of h =
+      omega (arith, entries_enough h.capacity h.grain_size z.sizes.low h.entries_per_table z.some) in rw (ed, m) at ek
+
+pub grains_none : (f : ℕ → Entry) (n all : ℕ) → n ≡ 0 → none ≡ with_entries none f (min n all)
 unfolding with_entries
-grains_none f all = let m : min 0 all ≡ 0 = omega arith in rw m
-
-pub grains_all : (s : List ℕ) (h : Header) (first all : ℕ) (k : Kinds) → all ≡ grains_of h → all ≤ first
-    → k ≡ with_entries none (grain_entry s h) (min first all) → k ≡ with_entries none (grain_entry s h) (grains_of h)
-grains_all s h first all k ea past ek = let m : min first all ≡ grains_of h = omega arith in rw (← m) ek
+grains_none f n all z = let m : min n all ≡ 0 = omega arith in rw m

@@ -11,7 +11,7 @@ ghost use Rattle.kinds.specs.Counting.{none, with_many, with_entries, all_of};
 
 use entries::meaning_at;
 use format::{Entry, Header};
-use sizes::{entries_in_use, grains_of};
+use sizes::{directory_entries, entries_in_use, grains_of};
 
 // Grains by what their entries mean.
 #[derive(Clone, Copy)]
@@ -29,18 +29,15 @@ fn with_many(kinds: Kinds, entry: Entry, n: u64) -> Kinds
     match entry {
         Entry::Absent => Kinds {
             absent: kinds.absent + n,
-            zero: kinds.zero,
-            named: kinds.named,
+            ..kinds
         },
         Entry::Zero => Kinds {
-            absent: kinds.absent,
             zero: kinds.zero + n,
-            named: kinds.named,
+            ..kinds
         },
         Entry::Sector(_) => Kinds {
-            absent: kinds.absent,
-            zero: kinds.zero,
             named: kinds.named + n,
+            ..kinds
         },
     }
 }
@@ -51,10 +48,8 @@ fn with_table(image: &[u8], one_is_zero: bool, t: u64, n: u64, kinds: Kinds) -> 
     ensures { result ≡ with_entries kinds (meaning_at image.now one_is_zero t) n }
 {
     let mut counted = kinds;
-    let mut k: u64 = 0;
-    while k < n {
+    for k in 0..n {
         counted = with_many(counted, meaning_at(image, one_is_zero, t, k), 1);
-        k += 1;
     }
     counted
 }
@@ -76,19 +71,16 @@ pub fn grains_by_kind(image: &[u8], h: Header) -> Kinds
     ensures { result ≡ with_entries none (grain_entry image.now h) (grains_of h) }
 {
     let all = grains_of(h.capacity, h.grain_size);
+    let tables = directory_entries(h.capacity, h.entries_per_table, h.grain_size);
     let mut kinds = Kinds {
         absent: 0,
         zero: 0,
         named: 0,
     };
-    let mut d: u64 = 0;
-    let mut first: u64 = 0;
-    while first < all {
+    for d in 0..tables {
         let table = meaning_at(image, h.one_is_zero, h.directory, d);
-        let used = entries_in_use(h.entries_per_table, all - first);
+        let used = entries_in_use(h.entries_per_table, all - d * h.entries_per_table);
         kinds = with_grains(image, h.one_is_zero, table, used, kinds);
-        d += 1;
-        first += h.entries_per_table;
     }
     kinds
 }

@@ -8,11 +8,7 @@ use Rattle.format.specs.Areas.{grain_area, areas}
 use Rattle.format.specs.Check.{grain_past, unless_grain, check_apart, check_copies, check_grains, check_layout}
 use Rattle.format.specs.Accepted.{AreaRules}
 use Rattle.format.specs.declared.Header.{Header}
-use Rattle.format.specs.declared.Lowest.{Lowest}
-use Rattle.format.specs.declared.Lowest.TheVariants.{None}
 use Rattle.format.specs.declared.Refusal.{Refusal}
-use Rattle.format.specs.declared.CheckAnswer.{CheckAnswer}
-use Rattle.format.specs.declared.CheckAnswer.TheVariants.{Accepted}
 use Rattle.format.proofs.Areas.{meet_apart, apart_meet}
 use Rattle.format.proofs.Picked.{pick_else}
 use Rattle.format.proofs.Inside.{each_in, in_each, rows_in, groups_in, in_groups}
@@ -22,16 +18,19 @@ use Rattle.format.proofs.Filed.{Fronted, inside_all}
 use Rattle.format.proofs.Places.{Places, places_kept, kept_places}
 use Rattle.laws.proofs.AcceptedCopies.{copies_kept, kept_copies}
 use Rattle.laws.proofs.AcceptedMarkers.{markers_kept, kept_markers}
+use Rattle.std.specs.Prelude.{Result, Option, None}
+use Rattle.format.specs.declared.Shape.{Shape}
+use Rattle.format.specs.AnswerParts.{accepted_as}
 
 -- ---- the steps of a check
-no_grain_lem : (l : Lowest) (refusal : ℕ → Refusal) (y : CheckAnswer) → l ≡ None → unless_grain l refusal y ≡ y
+no_grain_lem : (l : Option ℕ) (refusal : ℕ → Refusal) (y : Result Shape Refusal) → l ≡ None → unless_grain l refusal y ≡ y
 unfolding unless_grain
 no_grain_lem l refusal y e = rw e
 
 module _ (s : List ℕ) (h : Header) where
   -- ---- where the header's own areas lie in the file, the check finds all that the rules say
   -- what is not refused 8 to 12 keeps the area rules
-  pub layout_sound : Fronted s h → (c g : ℕ) → check_layout s h ≡ Accepted c g → (AreaRules s h) × (c ≡ h.capacity)
+  pub layout_sound : Fronted s h → (c g : ℕ) → check_layout s h ≡ accepted_as c g → (AreaRules s h) × (c ≡ h.capacity)
       × (g ≡ h.grain_size)
   layout_sound b c g e =
       let p = layout_passed s h c g e in
@@ -49,7 +48,7 @@ module _ (s : List ℕ) (h : Header) where
       )
 
   -- ---- the other way: what keeps the area rules is not refused 8 to 12
-  pub layout_complete : AreaRules s h → check_layout s h ≡ Accepted h.capacity h.grain_size
+  pub layout_complete : AreaRules s h → check_layout s h ≡ accepted_as h.capacity h.grain_size
   unfolding check_layout check_grains check_copies check_apart
   layout_complete r =
       let f = file_sectors s in

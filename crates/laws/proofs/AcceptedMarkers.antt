@@ -13,9 +13,9 @@ use Rattle.format.specs.Check.{marker_broken_at, bad_marker, lowest_bad_marker}
 use Rattle.format.specs.declared.Header.{Header}
 use Rattle.format.specs.declared.Entry.{Entry}
 use Rattle.format.specs.declared.Entry.TheVariants.{Absent, Zero, Sector}
-use Rattle.format.specs.declared.Lowest.TheVariants.{None}
 use Rattle.format.proofs.Picked.{and_no, no_and}
 use Rattle.format.proofs.LowestGrain.{none_lowest, lowest_none}
+use Rattle.std.specs.Prelude.{None}
 
 -- ---- one marker
 module _ (s : List ℕ) (size g e : ℕ) where

@@ -25,8 +25,6 @@ use Rattle.format.specs.Answers.{number}
 use Rattle.format.specs.declared.Taken.TheVariants.{KdmvAlone}
 use Rattle.format.specs.declared.Refusal.{Refusal}
 use Rattle.format.specs.declared.Refusal.TheVariants.{SharedSector, TooLittleRoom}
-use Rattle.format.specs.declared.CheckAnswer.{CheckAnswer}
-use Rattle.format.specs.declared.CheckAnswer.TheVariants.{Accepted, Refused}
 use Rattle.format.proofs.CameToMarking.{unmarked_of_lem}
 use Rattle.format.proofs.Filed.{all_in_file}
 use Rattle.format.proofs.HeaderJudged.{judged_header}
@@ -35,18 +33,21 @@ use Rattle.format.proofs.Passed.{header_passed, layout_passed}
 use Rattle.laws.specs.FirstMeeting.{FirstMeeting}
 use Rattle.laws.proofs.CheckRefusals.{check_refuses}
 use Rattle.laws.proofs.FirstMeeting.{meeting_first}
+use Rattle.std.specs.Prelude.{Result, Err}
+use Rattle.format.specs.declared.Shape.{Shape}
+use Rattle.format.specs.AnswerParts.{accepted_as}
 
-short_not : came_to_marking (Refused TooLittleRoom) ≡ false
+short_not : came_to_marking (Err TooLittleRoom) ≡ false
 unfolding came_to_marking
 short_not = refl
 
-accepted_apart : (s : List ℕ) (c g : ℕ) → check s ≡ Accepted c g → meet (areas s (header_of s)) ≡ false
+accepted_apart : (s : List ℕ) (c g : ℕ) → check s ≡ accepted_as c g → meet (areas s (header_of s)) ≡ false
 accepted_apart s c g e =
     let k = header_passed s (judge s) c g e in
     let is : k.0 ≡ header_of s = judged_header s k.0 k.1 in
     rw is at (layout_passed s k.0 c g k.2).apart
 
-shared_meet : (s : List ℕ) → came_to_marking (check s) ≡ true → check s ≡ Refused SharedSector
+shared_meet : (s : List ℕ) → came_to_marking (check s) ≡ true → check s ≡ Err SharedSector
     → meet (areas s (header_of s)) ≡ true
 unfolding check_apart pick
 shared_meet s c e =
@@ -65,11 +66,11 @@ module _ (s : List ℕ) (room : ℕ) where
   -- ---- 21
   -- exactly where the plain check accepts or refuses 12, and the list has fewer words than are needed
   pub short_refused : came_to_marking (check s) ≡ true → room < words_needed s
-      → (check_in s room).checked ≡ Refused TooLittleRoom
+      → (check_in s room).checked ≡ Err TooLittleRoom
   unfolding check_in_room with_marked pick
   short_refused c l = rw (c, lt-ltb room (words_needed s) l)
 
-  pub refused_short : (check_in s room).checked ≡ Refused TooLittleRoom
+  pub refused_short : (check_in s room).checked ≡ Err TooLittleRoom
       → (came_to_marking (check s) ≡ true) × (room < words_needed s)
   unfolding check_in_room with_marked pick
   refused_short e =
@@ -78,7 +79,7 @@ module _ (s : List ℕ) (room : ℕ) where
       (true_or_false short)
 
   -- elsewhere the plain check's answer
-  pub plain_answer : ((check_in s room).checked ≡ Refused TooLittleRoom → ⊥) → (check_in s room).checked ≡ check s
+  pub plain_answer : ((check_in s room).checked ≡ Err TooLittleRoom → ⊥) → (check_in s room).checked ≡ check s
   unfolding check_in_room with_marked pick
   plain_answer n =
       ⊎_elim (λ y. absurd (n (rw y))) (λ f. rw f) (true_or_false short)
@@ -109,7 +110,7 @@ module _ (s : List ℕ) (room : ℕ) where
       (λ n. omega arith)
 
   -- after acceptance all areas are counted
-  pub accepted_number : (c g : ℕ) → (check_in s room).checked ≡ Accepted c g
+  pub accepted_number : (c g : ℕ) → (check_in s room).checked ≡ accepted_as c g
       → (check_in s room).marked ≡ sectors_of (areas s (header_of s))
   unfolding with_marked came_to_marking pick
   accepted_number c g e =
@@ -117,24 +118,24 @@ module _ (s : List ℕ) (room : ℕ) where
       rw e (marked_all (areas s (header_of s)) (accepted_apart s c g (sym p.0 ∙ e)))
 
   -- on 12 those before the first that meets an earlier one, and on every other refusal none
-  pub shared_number : (check_in s room).checked ≡ Refused SharedSector
+  pub shared_number : (check_in s room).checked ≡ Err SharedSector
       → FirstMeeting (areas s (header_of s)) (check_in s room).marked
   unfolding with_marked came_to_marking pick
   shared_number e =
       let p = came_plain (rw e) in
       rw e (meeting_first (areas s (header_of s)) (shared_meet s p.1 (sym p.0 ∙ e)))
 
-  pub other_number : (r : Refusal) → (check_in s room).checked ≡ Refused r → (number r ≡ 12 → ⊥) → (check_in s room).marked ≡ 0
+  pub other_number : (r : Refusal) → (check_in s room).checked ≡ Err r → (number r ≡ 12 → ⊥) → (check_in s room).marked ≡ 0
   unfolding with_marked came_to_marking pick
   other_number r e n = rw (e, ne_eqb (number r) 12 n)
 
 -- ---- the lent list
 module _ (s list : List ℕ) where
-  abbrev answer : CheckAnswer
+  abbrev answer : Result Shape Refusal
   answer = (check_in s (length list)).checked
 
   -- on a refusal but 12 it keeps its content
-  pub list_kept : (r : Refusal) → answer ≡ Refused r → (number r ≡ 12 → ⊥) → list_after_check s list ≡ list
+  pub list_kept : (r : Refusal) → answer ≡ Err r → (number r ≡ 12 → ⊥) → list_after_check s list ≡ list
   unfolding with_marked list_after_check came_to_marking pick
   list_kept r e n = rw (e, ne_eqb (number r) 12 n)
 

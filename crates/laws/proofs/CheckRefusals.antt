@@ -11,28 +11,24 @@ use Rattle.format.specs.Check.{unless_grain, check_apart, check_copies, check_gr
 use Rattle.format.specs.Answers.{number}
 use Rattle.format.specs.declared.Taken.TheVariants.{KdmvAlone}
 use Rattle.format.specs.declared.Header.{Header}
-use Rattle.format.specs.declared.Lowest.{Lowest}
-use Rattle.format.specs.declared.Lowest.TheVariants.{None as no_grain, Grain}
 use Rattle.format.specs.declared.Refusal.{Refusal}
 use Rattle.format.specs.declared.Refusal.TheVariants.{GrainPast, Marker}
-use Rattle.format.specs.declared.HeaderAnswer.{HeaderAnswer}
-use Rattle.format.specs.declared.HeaderAnswer.TheVariants.{Known, Refused as unknown}
-use Rattle.format.specs.declared.CheckAnswer.{CheckAnswer}
-use Rattle.format.specs.declared.CheckAnswer.TheVariants.{Accepted, Refused}
 use Rattle.format.proofs.HeaderRefusals.{taken_refuses}
+use Rattle.std.specs.Prelude.{Result, Ok, Err, Option, Some, None}
+use Rattle.format.specs.declared.Shape.{Shape}
 
 abbrev Early : Refusal → Type 0
 Early r = (number r ≤ 12) ⊎ (number r ≡ 43)
 
-abbrev EarlyCheck : CheckAnswer → Type 0
-EarlyCheck (Accepted c size) = Unit
-EarlyCheck (Refused r) = Early r
+abbrev EarlyCheck : Result Shape Refusal → Type 0
+EarlyCheck (Ok sizes) = Unit
+EarlyCheck (Err r) = Early r
 
-early_grain : (l : Lowest) (refusal : ℕ → Refusal) (a : CheckAnswer) → ((g : ℕ) → Early (refusal g)) → EarlyCheck a
+early_grain : (l : Option ℕ) (refusal : ℕ → Refusal) (a : Result Shape Refusal) → ((g : ℕ) → Early (refusal g)) → EarlyCheck a
     → EarlyCheck (unless_grain l refusal a)
 unfolding unless_grain
-early_grain no_grain refusal a e k = k
-early_grain (Grain g) refusal a e k = e g
+early_grain None refusal a e k = k
+early_grain (Some g) refusal a e k = e g
 
 module _ (s : List ℕ) where
   early_layout : (h : Header) → EarlyCheck (check_layout s h)
@@ -44,13 +40,13 @@ module _ (s : List ℕ) where
       (early_grain _ Marker _ (λ g. inl (lit≤ tt))
       (cond_all EarlyCheck _ _ _ (λ d. inl (lit≤ tt)) (λ d. cond_all EarlyCheck _ _ _ (λ e. inl (lit≤ tt)) (λ e. tt)))))
 
-  early_from : (a : HeaderAnswer) → judge s ≡ a → EarlyCheck (check_from s a)
+  early_from : (a : Result Header Refusal) → judge s ≡ a → EarlyCheck (check_from s a)
   unfolding check_from
-  early_from (unknown r) e = ⊎_elim (λ l. inl (omega arith)) (λ l. inr l) (taken_refuses s KdmvAlone r e)
-  early_from (Known h) e = early_layout h
+  early_from (Err r) e = ⊎_elim (λ l. inl (omega arith)) (λ l. inr l) (taken_refuses s KdmvAlone r e)
+  early_from (Ok h) e = early_layout h
 
   early_check : EarlyCheck (check s)
   early_check = early_from (judge s) refl
 
-  pub check_refuses : (r : Refusal) → check s ≡ Refused r → (number r ≤ 12) ⊎ (number r ≡ 43)
+  pub check_refuses : (r : Refusal) → check s ≡ Err r → (number r ≤ 12) ⊎ (number r ≡ 43)
   check_refuses r e = rw e at early_check

@@ -23,7 +23,6 @@ use Rattle.format.specs.Stream.{overhead, kept_grains, kept_sectors}
 use Rattle.format.specs.Tail.{kept_entry, new_tables, new_directory_entry}
 use Rattle.format.specs.Close.{closed_image}
 use Rattle.format.specs.declared.Entry.TheVariants.{Sector}
-use Rattle.format.specs.declared.CheckAnswer.TheVariants.{Accepted as accepted}
 use Rattle.format.proofs.Areas.{holders_append}
 use Rattle.format.proofs.Entries.{sectors_same}
 use Rattle.format.proofs.Inside.{none_in, both_in, there_in, each_in, in_groups}
@@ -36,6 +35,7 @@ use Rattle.laws.proofs.ClosedHeader.{closed_sectors_lem, closed_rules, kdmv_clos
 use Rattle.laws.proofs.ClosedEntries.{directory_entry_lem, closed_entry}
 use Rattle.laws.proofs.ClosedGrains.{entry_cases, size_same, first_same, kept_lies, kept_entry_lem, other_entry_lem}
 use Rattle.laws.proofs.ClosedBetween.{takes_all, grains_between, tables_between}
+use Rattle.format.specs.AnswerParts.{accepted_as}
 
 -- an area that may be there, up to a sector
 there_between : (there : Bool) (a : Area) (p last : ℕ) → p ≤ last → (there ≡ true → p ≤ a.first)
@@ -222,7 +222,7 @@ closed_meets s c = image_accepted s (closing s c)
 
 -- kept part and tail together are accepted, with the start's capacity and grain size
 pub closed_accepted : (s : List ℕ) → Closable s
-    → check (closed_image s) ≡ accepted (start_of s).capacity (start_of s).grain_size
+    → check (closed_image s) ≡ accepted_as (start_of s).capacity (start_of s).grain_size
 unfolding kdmv_header
 closed_accepted s c =
     let z = closing s c in rw (header_closed s z) at (accepted_complete (closed_image s) (image_accepted s z))

@@ -16,7 +16,6 @@ use Rattle.format.specs.Close.{closed_image}
 use Rattle.format.specs.declared.Entry.{Entry}
 use Rattle.format.specs.declared.Entry.TheVariants.{Absent as no_entry, Sector}
 use Rattle.format.specs.declared.Source.TheVariants.{Absent, Packed}
-use Rattle.format.specs.declared.LookupAnswer.TheVariants.{Found}
 use Rattle.format.proofs.Geometry.{grain_of_lem}
 use Rattle.format.proofs.BytesAt.{part_alike}
 use Rattle.laws.specs.Closed.{Closable, Among, closed_header}
@@ -25,6 +24,7 @@ use Rattle.laws.proofs.ClosedStart.{Closing, closing, kept_here, kept_same}
 use Rattle.laws.proofs.ClosedHeader.{header_closed, packed_closed, closed_length}
 use Rattle.laws.proofs.ClosedGrains.{entry_cases, size_same, kept_lies, kept_entry_lem, other_entry_lem}
 use Rattle.laws.proofs.ClosedAccepted.{image_accepted}
+use Rattle.std.specs.Prelude.{Ok}
 
 -- a source, by its entry
 packed_source : (s : List ℕ) (packed : Bool) (o e : ℕ) (d : Entry) → packed ≡ true → d ≡ Sector e
@@ -44,7 +44,7 @@ module _ (s : List ℕ) (c : Closable s) (x : ℕ) (low : x < (start_of s).capac
   unfolding kdmv_header
   below = rw (header_closed s z) low
 
-  found : sector_lookup (closed_image s) x ≡ Found (source_of (closed_image s) (closed_header s) x)
+  found : sector_lookup (closed_image s) x ≡ Ok (source_of (closed_image s) (closed_header s) x)
   found = rw (header_closed s z) at (served (closed_image s) (image_accepted s z) x below)
 
   -- a sector of a kept grain: packed, from the marker where it stood, with the size that it told
@@ -65,8 +65,8 @@ module _ (s : List ℕ) (c : Closable s) (x : ℕ) (low : x < (start_of s).capac
         ∙ ap (λ (n : ℕ). Packed k.sector n (x % (start_of s).grain_size)) (size_same s z k.sector here)
 
     pub closed_packed : sector_lookup (closed_image s) x
-        ≡ Found (Packed k.sector (marker_size s k.sector) (x % (start_of s).grain_size))
-    closed_packed = found ∙ ap Found source_is
+        ≡ Ok (Packed k.sector (marker_size s k.sector) (x % (start_of s).grain_size))
+    closed_packed = found ∙ ap Ok source_is
 
     -- the reader gives the bytes that stood behind the marker in what was lent
     pub closed_bytes : read (closed_image s) x ≡ bytes_at s (512 * k.sector + 12) (marker_size s k.sector)
@@ -79,14 +79,14 @@ module _ (s : List ℕ) (c : Closable s) (x : ℕ) (low : x < (start_of s).capac
 
   -- a sector of any other grain
   pub closed_absent : ((k : KeptGrain) → Among k (kept_grains s (start_of s)) → k.number ≡ x / (start_of s).grain_size → ⊥)
-      → sector_lookup (closed_image s) x ≡ Found Absent
+      → sector_lookup (closed_image s) x ≡ Ok Absent
   unfolding kdmv_header
   closed_absent other =
       let g = x / (start_of s).grain_size in
       let used : g < grains_of (start_of s) =
       grain_of_lem (start_of s).capacity (start_of s).grain_size (omega (arith, z.sizes.low)) x low in
       found
-      ∙ ap Found
+      ∙ ap Ok
       (absent_source_lem (closed_image s) (closed_header s).packed _ _
       (⊎_elim (λ none. other_entry_lem s z g used none) (λ r. absurd (other r.0 r.1 r.2))
       (entry_cases (kept_grains s (start_of s)) g)))

@@ -25,11 +25,7 @@ use Rattle.format.specs.Tail.{tail_bytes}
 use Rattle.format.specs.Close.{no_stream, walk_misplaced, tail_of, closed_image, close_from, close_judged}
 use Rattle.format.specs.Close.{close}
 use Rattle.format.specs.declared.Header.{Header}
-use Rattle.format.specs.declared.Fault.TheVariants.{None}
 use Rattle.format.specs.declared.Refusal.TheVariants.{TooLittleRoom}
-use Rattle.format.specs.declared.HeaderAnswer.TheVariants.{Known}
-use Rattle.format.specs.declared.closing.CloseAnswer.{CloseAnswer}
-use Rattle.format.specs.declared.closing.CloseAnswer.TheVariants.{Closed, Refused}
 use Rattle.format.proofs.HeaderKdmv.{no_or}
 use Rattle.format.proofs.Picked.{pick_then, pick_else}
 use Rattle.format.proofs.SameHeader.{string}
@@ -38,10 +34,14 @@ use Rattle.laws.specs.Closed.{Closable}
 use Rattle.laws.proofs.ClosedStart.{Closing, closing, kept_late, kept_start}
 use Rattle.laws.proofs.ClosedHeader.{closed_length, closed_sectors_lem, head_same, fields_same, start_closed}
 use Rattle.laws.proofs.ClosedAgain.{walk_same}
+use Rattle.std.specs.Prelude.{Result, Ok, Err}
+use Rattle.format.specs.declared.Refusal.{Refusal}
+use Rattle.format.specs.declared.closing.Kept.{Kept}
+use Rattle.format.specs.AnswerParts.{closed_as}
 
 -- ---- a start whose magic and fields are right is not refused 1 to 6
-start_known : (s : List ℕ) → 512 ≤ length s → same_at s 0 kdmv_magic ≡ true → kdmv_fault (kdmv_fields s) ≡ None
-    → judge_start s ≡ Known (start_of s)
+start_known : (s : List ℕ) → 512 ≤ length s → same_at s 0 kdmv_magic ≡ true → kdmv_fault (kdmv_fields s) ≡ (Ok tt)
+    → judge_start s ≡ Ok (start_of s)
 unfolding judge_start judge_kdmv_start unless_fault
 start_known s long magic kept =
     pick_else _ _ _ (le-ltb (length s) 4 (omega arith))
@@ -50,9 +50,9 @@ start_known s long magic kept =
     ∙ rw kept
 
 -- what is answered where 41 is not given
-abbrev answered : ℕ → Header → ℕ → List KeptGrain → CloseAnswer
+abbrev answered : ℕ → Header → ℕ → List KeptGrain → Result Kept Refusal
 answered room h sectors l =
-    pick (ltb room (512 * tail_sectors h l)) (Refused TooLittleRoom) (Closed sectors (length l) (512 * tail_sectors h l))
+    pick (ltb room (512 * tail_sectors h l)) (Err TooLittleRoom) (closed_as sectors (length l) (512 * tail_sectors h l))
 
 room_decides : (s : List ℕ) → Closable s → (room : ℕ)
     → close s room ≡ answered room (start_of s) (kept_sectors s (start_of s)) (kept_grains s (start_of s))

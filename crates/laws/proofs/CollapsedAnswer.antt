@@ -21,36 +21,35 @@ use Rattle.format.specs.Collapse.{map_of, laid_length, normal_form, collapsed, i
 use Rattle.format.specs.Collapse.{written_if_room, normal_from, normal, collapse_from, collapse, output, normal_output}
 use Rattle.format.specs.Collapse.{collapse_output}
 use Rattle.format.specs.declared.Refusal.{Refusal}
-use Rattle.format.specs.declared.CheckAnswer.{CheckAnswer}
-use Rattle.format.specs.declared.CheckAnswer.TheVariants.{Accepted, Refused as unaccepted}
-use Rattle.format.specs.declared.CollapseAnswer.{CollapseAnswer}
-use Rattle.format.specs.declared.CollapseAnswer.TheVariants.{Written, Refused}
 use Rattle.format.proofs.Picked.{pick_else, passed}
 use Rattle.format.proofs.LayersAt.{like, alike}
 use Rattle.laws.specs.Layers.{Layer}
 use Rattle.laws.proofs.AcceptedImage.{accepted_sound}
 use Rattle.laws.proofs.CollapsedLayers.{capacity_is, size_is}
 use Rattle.laws.proofs.CollapsedImages.{normal_length, collapsed_length}
+use Rattle.std.specs.Prelude.{Result, Ok, Err}
+use Rattle.format.specs.declared.Shape.{Shape}
+use Rattle.format.specs.AnswerParts.{accepted_as}
 
 -- ---- where it was written, nothing was refused
-pub was_accepted : (a : CheckAnswer) (b : CollapseAnswer) (long : ℕ) → if_accepted a b ≡ Written long
-    → (c : ℕ) × (size : ℕ) × (a ≡ Accepted c size) × (b ≡ Written long)
+pub was_accepted : (a : Result Shape Refusal) (b : Result ℕ Refusal) (long : ℕ) → if_accepted a b ≡ Ok long
+    → (c : ℕ) × (size : ℕ) × (a ≡ accepted_as c size) × (b ≡ Ok long)
 unfolding if_accepted
-was_accepted (unaccepted r) b long e = let z : ◌≡◌ {A = ℕ} 0 1 = cc in absurd (omega arith)
-was_accepted (Accepted c size) b long e = (c, size, refl, e)
+was_accepted (Err r) b long e = let z : ◌≡◌ {A = ℕ} 0 1 = cc in absurd (omega arith)
+was_accepted (Ok sizes) b long e = (sizes.capacity, sizes.grain_size, refl, e)
 
-pub written_past : (b : Bool) (r : Refusal) (y : CollapseAnswer) (long : ℕ) → pick b (Refused r) y ≡ Written long
-    → (b ≡ false) × (y ≡ Written long)
-written_past b r y long e = passed b (Refused r) y (Written long) (λ q. let z : ◌≡◌ {A = ℕ} 0 1 = cc in omega arith) e
+pub written_past : (b : Bool) (r : Refusal) (y : Result ℕ Refusal) (long : ℕ) → pick b (Err r) y ≡ Ok long
+    → (b ≡ false) × (y ≡ Ok long)
+written_past b r y long e = passed b (Err r) y (Ok long) (λ q. let z : ◌≡◌ {A = ℕ} 0 1 = cc in omega arith) e
 
-pub written_long : (room n long : ℕ) → written_if_room room n ≡ Written long → (long ≡ n) × (long ≤ room)
+pub written_long : (room n long : ℕ) → written_if_room room n ≡ Ok long → (long ≡ n) × (long ≤ room)
 unfolding written_if_room
 written_long room n long e =
     let r = written_past (ltb room n) _ _ long e in
     let q : long ≡ n = cc in
     (q, rw q (ltb-false _ _ r.0))
 
-pub own_layer : (s : List ℕ) (c size : ℕ) → check s ≡ Accepted c size → not_collapsible (header_of s) ≡ false
+pub own_layer : (s : List ℕ) (c size : ℕ) → check s ≡ accepted_as c size → not_collapsible (header_of s) ≡ false
     → still_open (header_of s) ≡ false → Layer (header_of s).capacity (header_of s).grain_size s
 own_layer s c size e n o =
     let r = accepted_sound s c size e in record { accepted = rw (r.1, r.2) at e; collapsible = n; clean = o }
@@ -71,7 +70,7 @@ layers_collapse {lower = lower} {upper = upper} p q room =
     ∙ pick_else _ _ _ (rw (p.clean, q.clean))
     ∙ ap (written_if_room room) (laid_length_lem p (merge (map_of lower) (map_of upper)) ∙ sym (collapsed_length p q)))
 
-module _ (lower upper : List ℕ) (room long : ℕ) (e : collapse lower upper room ≡ Written long) where
+module _ (lower upper : List ℕ) (room long : ℕ) (e : collapse lower upper room ≡ Ok long) where
   -- what was written came of two layers, and fits
   pub collapse_layers : (Layer (header_of lower).capacity (header_of lower).grain_size lower)
       × (Layer (header_of lower).capacity (header_of lower).grain_size upper)
@@ -93,7 +92,7 @@ module _ (lower upper : List ℕ) (room long : ℕ) (e : collapse lower upper ro
       (p, q, f.0, f.1)
 
 -- the output begins with the collapsed image
-pub collapse_output_lem : (lower upper out : List ℕ) (long : ℕ) → collapse lower upper (length out) ≡ Written long
+pub collapse_output_lem : (lower upper out : List ℕ) (long : ℕ) → collapse lower upper (length out) ≡ Ok long
     → take long (collapse_output lower upper out) ≡ collapsed lower upper
 unfolding output over
 collapse_output_lem lower upper out long e =
@@ -107,7 +106,7 @@ layer_normal {s = s} p room =
     rw p.accepted (pick_else _ _ _ p.collapsible ∙ pick_else _ _ _ p.clean
     ∙ ap (written_if_room room) (laid_length_lem p (map_of s) ∙ sym (normal_length p)))
 
-module _ (s : List ℕ) (room long : ℕ) (e : normal s room ≡ Written long) where
+module _ (s : List ℕ) (room long : ℕ) (e : normal s room ≡ Ok long) where
   pub normal_layer : (Layer (header_of s).capacity (header_of s).grain_size s)
       × (long ≡ length (normal_form s))
       × (long ≤ room)
@@ -120,7 +119,7 @@ module _ (s : List ℕ) (room long : ℕ) (e : normal s room ≡ Written long) w
       let f = written_long room _ long (sym (layer_normal p room) ∙ e) in
       (p, f.0, f.1)
 
-pub normal_output_lem : (s out : List ℕ) (long : ℕ) → normal s (length out) ≡ Written long
+pub normal_output_lem : (s out : List ℕ) (long : ℕ) → normal s (length out) ≡ Ok long
     → take long (normal_output s out) ≡ normal_form s
 unfolding output over
 normal_output_lem s out long e = rw (e, (normal_layer s (length out) long e).1) (take-append_seam (normal_form s) _)

@@ -19,10 +19,6 @@ use Rattle.format.specs.declared.Source.{Source}
 use Rattle.format.specs.declared.Source.TheVariants.{Absent, Zero, Stored}
 use Rattle.format.specs.declared.LayerSource.{LayerSource}
 use Rattle.format.specs.declared.Refusal.TheVariants.{SectorPast}
-use Rattle.format.specs.declared.HeaderAnswer.TheVariants.{Known}
-use Rattle.format.specs.declared.LookupAnswer.TheVariants.{Found as found_in}
-use Rattle.format.specs.declared.ChainAnswer.{ChainAnswer}
-use Rattle.format.specs.declared.ChainAnswer.TheVariants.{Found, Refused}
 use Rattle.format.proofs.Picked.{pick_then, pick_else}
 use Rattle.format.proofs.Entries.{no_some}
 use Rattle.format.proofs.LayersAt.{like}
@@ -32,6 +28,9 @@ use Rattle.laws.proofs.CollapsedMaps.{onto_assoc, onto_nothing}
 use Rattle.laws.proofs.CollapsedLayers.{layer_accepted, capacity_is, size_is}
 use Rattle.laws.proofs.CollapsedSectors.{sector_in, sector_onto, Tells, tells_absent, tells_zero, tells_stored, Looked}
 use Rattle.laws.proofs.CollapsedSectors.{looked}
+use Rattle.std.specs.Prelude.{Result, Ok}
+use Rattle.format.specs.declared.LayerRefusal.{LayerRefusal}
+use Rattle.format.specs.AnswerParts.{refused_at}
 
 -- ---- layers end to end
 -- layer k is the k-th
@@ -76,13 +75,14 @@ topmost_stack o g (s ∷ l) =
 
 -- ---- the walk
 module _ (s lengths : List ℕ) where
-  pub record Walked (w : ChainAnswer) (g : Grain) : Type 0 where
+  pub record Walked (w : Result LayerSource LayerRefusal) (g : Grain) : Type 0 where
     pub answer : LayerSource
-    pub is : w ≡ Found answer
+    pub is : w ≡ Ok answer
     pub tells : Tells (layer_at s lengths answer.layer) answer.source g
 
-  one_down : (k : ℕ) (a : Source) (g b : Grain) (w : ChainAnswer) → Tells (layer_at s lengths k) a g → Walked w b
-      → Walked (unless_absent k (found_in a) w) (upper_unless_absent b g)
+  one_down : (k : ℕ) (a : Source) (g b : Grain) (w : Result LayerSource LayerRefusal) → Tells (layer_at s lengths k) a g
+      → Walked w b
+      → Walked (unless_absent k (Ok a) w) (upper_unless_absent b g)
   unfolding unless_absent upper_unless_absent
   one_down k a g b w tells_absent q = q
   one_down k a g b w tells_zero q = record { answer = record { layer = k; source = Zero }; is = refl; tells = tells_zero }
@@ -99,8 +99,8 @@ module _ (s lengths : List ℕ) where
         rw here.found (one_down n here.source (f n) _ _ here.tells (walked n (λ k b. h k (omega arith))))
 
   -- headers that are all known let the walk begin
-  headers_known : (n : ℕ) (a : ChainAnswer)
-      → ((k : ℕ) → k < n → judge (layer_at s lengths k) ≡ Known (header_of (layer_at s lengths k)))
+  headers_known : (n : ℕ) (a : Result LayerSource LayerRefusal)
+      → ((k : ℕ) → k < n → judge (layer_at s lengths k) ≡ Ok (header_of (layer_at s lengths k)))
       → headers_down s lengths n a ≡ a
   unfolding headers_down if_known
   headers_known zero a h = refl
@@ -126,7 +126,7 @@ module _ {c size : ℕ} (l : List (List ℕ)) (e : Every (Layer c size) l) where
     -- nothing but 20 can refuse it
     chain_is :
         chain_lookup (end_to_end l) (lengths_of l) x
-        ≡ pick (leb c x) (Refused 0 SectorPast) (walk_down (end_to_end l) (lengths_of l) x (length l))
+        ≡ pick (leb c x) (refused_at 0 SectorPast) (walk_down (end_to_end l) (lengths_of l) x (length l))
     unfolding chain_lookup walk
     chain_is =
         pick_else _ _ _ lengths_kept
@@ -136,7 +136,7 @@ module _ {c size : ℕ} (l : List (List ℕ)) (e : Every (Layer c size) l) where
         ∙ rw (capacity_is (each 0 some), lengths_count l)
 
     -- 20: sector at or past the end
-    pub chain_past : c ≤ x → chain_lookup (end_to_end l) (lengths_of l) x ≡ Refused 0 SectorPast
+    pub chain_past : c ≤ x → chain_lookup (end_to_end l) (lengths_of l) x ≡ refused_at 0 SectorPast
     chain_past past = chain_is ∙ pick_then _ _ _ (le-leb c x past)
 
     -- below it the topmost layer counts that is not absent

@@ -21,7 +21,6 @@ use Rattle.format.specs.declared.Entry.{Entry}
 use Rattle.format.specs.declared.Entry.TheVariants.{Absent as no_entry, Zero as zero_entry, Sector}
 use Rattle.format.specs.declared.Source.{Source}
 use Rattle.format.specs.declared.Source.TheVariants.{Absent, Zero, Stored}
-use Rattle.format.specs.declared.LookupAnswer.TheVariants.{Found}
 use Rattle.format.proofs.BytesAt.{part_long}
 use Rattle.format.proofs.Inside.{named_in}
 use Rattle.laws.specs.Layers.{Layer}
@@ -30,6 +29,7 @@ use Rattle.laws.proofs.ServedLookup.{grain_in}
 use Rattle.laws.proofs.ServedSectors.{either_good, served}
 use Rattle.format.proofs.Grains.{clip_length, clip_below}
 use Rattle.laws.proofs.CollapsedLayers.{layer_accepted, capacity_is, size_is, unpacked}
+use Rattle.std.specs.Prelude.{Ok}
 
 -- sector o of a grain
 unfoldable pub sector_in : ℕ → Grain → Grain
@@ -106,7 +106,7 @@ layer_tells {s = s} p x low =
 -- ---- the lookup finds what the map says
 pub record Looked (s : List ℕ) (x : ℕ) (g : Grain) : Type 0 where
   pub source : Source
-  pub found : sector_lookup s x ≡ Found source
+  pub found : sector_lookup s x ≡ Ok source
   pub tells : Tells s source g
 
 pub looked : {c size : ℕ} {s : List ℕ} → Layer c size s → (x : ℕ) → x < c

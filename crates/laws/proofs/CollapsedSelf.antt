@@ -12,19 +12,19 @@ use Rattle.format.specs.Collapse.{map_of, if_accepted, not_collapsible, still_op
 use Rattle.format.specs.Collapse.{collapse}
 use Rattle.format.specs.Collapse.{laid_out, output, normal_output, collapse_output}
 use Rattle.format.specs.declared.Header.{Header}
-use Rattle.format.specs.declared.CheckAnswer.{CheckAnswer}
-use Rattle.format.specs.declared.CheckAnswer.TheVariants.{Accepted, Refused as unaccepted}
-use Rattle.format.specs.declared.CollapseAnswer.{CollapseAnswer}
 use Rattle.format.proofs.Grains.{onto_self}
 use Rattle.format.proofs.LayersAt.{like}
+use Rattle.std.specs.Prelude.{Result, Ok, Err}
+use Rattle.format.specs.declared.Shape.{Shape}
+use Rattle.format.specs.declared.Refusal.{Refusal}
 
 merge_self : (m : Map) → merge m m ≡ m
 merge_self m = fun_ext (λ g. onto_self (m g))
 
-accepted_self : (a : CheckAnswer) (x : CollapseAnswer) → if_accepted a (if_accepted a x) ≡ if_accepted a x
+accepted_self : (a : Result Shape Refusal) (x : Result ℕ Refusal) → if_accepted a (if_accepted a x) ≡ if_accepted a x
 unfolding if_accepted
-accepted_self (unaccepted r) x = refl
-accepted_self (Accepted c size) x = refl
+accepted_self (Err r) x = refl
+accepted_self (Ok sizes) x = refl
 
 from_self : (h : Header) (m : Map) (room : ℕ) → collapse_from h h (merge m m) room ≡ normal_from h m room
 unfolding collapse_from normal_from pick

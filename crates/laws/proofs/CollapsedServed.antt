@@ -11,8 +11,6 @@ use Rattle.format.specs.Answers.{served, located, chained}
 use Rattle.format.specs.declared.Source.{Source}
 use Rattle.format.specs.declared.Source.TheVariants.{Absent, Zero, Stored, Packed}
 use Rattle.format.specs.declared.Refusal.TheVariants.{SectorPast}
-use Rattle.format.specs.declared.LookupAnswer.TheVariants.{Refused}
-use Rattle.format.specs.declared.ChainAnswer.TheVariants.{Refused as RefusedIn}
 use Rattle.format.proofs.Geometry.{grain_of_lem}
 use Rattle.laws.specs.Layers.{Layer, Every, none, more, end_to_end, lengths_of, Pairing, layer, pair, layers_of, paired_image}
 use Rattle.laws.specs.Served.{SameSource, absent, zero, stored, ServedAs}
@@ -22,6 +20,8 @@ use Rattle.laws.proofs.CollapsedLayers.{layer_accepted, capacity_is, layer_sizes
 use Rattle.laws.proofs.CollapsedPairings.{some_layer, pairing_accepted, pairing_map}
 use Rattle.laws.proofs.CollapsedSectors.{told_same, looked}
 use Rattle.laws.proofs.CollapsedChain.{chain_past, chain_walked}
+use Rattle.std.specs.Prelude.{Err}
+use Rattle.format.specs.AnswerParts.{refused_at}
 
 module _ {c size : ℕ} where
   -- any pairing of a chain's layers
@@ -42,8 +42,8 @@ module _ {c size : ℕ} where
 
   -- at or past the end both are refused 20
   pub pairing_past : (t : Pairing) → Every (Layer c size) (layers_of t) → length (layers_of t) ≤ 16 → (x : ℕ) → c ≤ x
-      → (sector_lookup (paired_image t) x ≡ Refused SectorPast)
-      × (chain_lookup (end_to_end (layers_of t)) (lengths_of (layers_of t)) x ≡ RefusedIn 0 SectorPast)
+      → (sector_lookup (paired_image t) x ≡ Err SectorPast)
+      × (chain_lookup (end_to_end (layers_of t)) (lengths_of (layers_of t)) x ≡ refused_at 0 SectorPast)
   pairing_past t e few x past =
       let p = pairing_accepted t e in (
         past_end (paired_image t) (layer_accepted p) x (rw (capacity_is p) past),
@@ -59,8 +59,8 @@ module _ {c size : ℕ} where
       rw append-nil at (pairing_serves (pair (layer lower) (layer upper)) (more p (more q none)) (lit≤ tt) x low)
 
   pub collapsed_past : {lower upper : List ℕ} → Layer c size lower → Layer c size upper → (x : ℕ) → c ≤ x
-      → (sector_lookup (collapsed lower upper) x ≡ Refused SectorPast)
-      × (chain_lookup (lower ++ upper) (length lower ∷ length upper ∷ []) x ≡ RefusedIn 0 SectorPast)
+      → (sector_lookup (collapsed lower upper) x ≡ Err SectorPast)
+      × (chain_lookup (lower ++ upper) (length lower ∷ length upper ∷ []) x ≡ refused_at 0 SectorPast)
   unfolding layers_of paired_image end_to_end lengths_of
   collapsed_past {lower} {upper} p q x past =
       rw append-nil at (pairing_past (pair (layer lower) (layer upper)) (more p (more q none)) (lit≤ tt) x past)

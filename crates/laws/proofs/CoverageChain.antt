@@ -20,68 +20,70 @@ use Rattle.format.specs.declared.Entry.TheVariants.{Absent as no_entry, Zero as 
 use Rattle.format.specs.declared.Source.{Source}
 use Rattle.format.specs.declared.Source.TheVariants.{Absent, Zero, Stored, Packed}
 use Rattle.format.specs.declared.Refusal.{Refusal}
-use Rattle.format.specs.declared.HeaderAnswer.{HeaderAnswer}
-use Rattle.format.specs.declared.HeaderAnswer.TheVariants.{Known, Refused as unknown}
 use Rattle.format.specs.declared.LayerSource.{LayerSource}
-use Rattle.format.specs.declared.LookupAnswer.{LookupAnswer}
-use Rattle.format.specs.declared.LookupAnswer.TheVariants.{Found as found_in, Refused as refused_in}
-use Rattle.format.specs.declared.ChainAnswer.{ChainAnswer}
-use Rattle.format.specs.declared.ChainAnswer.TheVariants.{Found, Refused}
 use Rattle.format.proofs.Picked.{passed}
 use Rattle.laws.specs.Coverage.{Uncompressed, own_entry, ComesFrom}
 use Rattle.laws.proofs.AcceptedImage.{accepted_sound}
 use Rattle.laws.proofs.ServedSectors.{served}
 use Rattle.laws.proofs.CoverageSectors.{size_is, capacity_is, no_sector_twice}
+use Rattle.std.specs.Prelude.{Result, Ok, Err}
+use Rattle.format.specs.declared.Header.{Header}
+use Rattle.format.specs.declared.LayerRefusal.{LayerRefusal}
+use Rattle.format.specs.AnswerParts.{refused_at}
 
 -- ---- an answer is no refusal
-found_past : (b : Bool) (layer : ℕ) (r : Refusal) (y : ChainAnswer) (a : LayerSource) → pick b (Refused layer r) y ≡ Found a
-    → (b ≡ false) × (y ≡ Found a)
+found_past : (b : Bool) (layer : ℕ) (r : Refusal) (y : Result LayerSource LayerRefusal) (a : LayerSource)
+    → pick b (refused_at layer r) y ≡ Ok a
+    → (b ≡ false) × (y ≡ Ok a)
 found_past b layer r y a e =
-    passed b (Refused layer r) y (Found a) (λ q. let z : ◌≡◌ {A = ℕ} 0 1 = cc in omega arith) e
+    passed b (refused_at layer r) y (Ok a) (λ q. let z : ◌≡◌ {A = ℕ} 0 1 = cc in omega arith) e
 
-known_past : (k : ℕ) (a : HeaderAnswer) (y : ChainAnswer) (f : LayerSource) → if_known k a y ≡ Found f → y ≡ Found f
+known_past : (k : ℕ) (a : Result Header Refusal) (y : Result LayerSource LayerRefusal) (f : LayerSource) → if_known k a y
+    ≡ Ok f → y ≡ Ok f
 unfolding if_known
-known_past k (unknown r) y f e = let z : ◌≡◌ {A = ℕ} 0 1 = cc in absurd (omega arith)
-known_past k (Known h) y f e = e
+known_past k (Err r) y f e = let z : ◌≡◌ {A = ℕ} 0 1 = cc in absurd (omega arith)
+known_past k (Ok h) y f e = e
 
-headers_past : (s lengths : List ℕ) (k : ℕ) (y : ChainAnswer) (f : LayerSource) → headers_down s lengths k y ≡ Found f
-    → y ≡ Found f
+headers_past : (s lengths : List ℕ) (k : ℕ) (y : Result LayerSource LayerRefusal) (f : LayerSource)
+    → headers_down s lengths k y ≡ Ok f
+    → y ≡ Ok f
 unfolding headers_down
 headers_past s lengths zero y f e = e
 headers_past s lengths (suc k) y f e =
     headers_past s lengths k y f (known_past k (judge (layer_at s lengths k)) _ f e)
 
-same_answer : {a b : LayerSource} → Found a ≡ Found b → a ≡ b
+same_answer : {a b : LayerSource} → ◌≡◌ {A = Result LayerSource LayerRefusal} (Ok a) (Ok b) → a ≡ b
 same_answer e = cc
 
-source_of_lem : {a b : LayerSource} → Found a ≡ Found b → a.source ≡ b.source
+source_of_lem : {a b : LayerSource} → ◌≡◌ {A = Result LayerSource LayerRefusal} (Ok a) (Ok b) → a.source ≡ b.source
 source_of_lem e = ap (λ (v : LayerSource). v.source) (same_answer e)
 
 -- ---- the walk: the layer that is named has the sector, and those above it nothing
 module _ (s lengths : List ℕ) (x k sector : ℕ) where
-  abbrev answer : ChainAnswer
-  answer = Found (record { layer = k; source = Stored sector })
+  abbrev answer : Result LayerSource LayerRefusal
+  answer = Ok (record { layer = k; source = Stored sector })
 
   record ToldBelow (n : ℕ) : Type 0 where
     pub inside : k < n
-    pub above : (j : ℕ) → k < j → j < n → sector_lookup (layer_at s lengths j) x ≡ found_in Absent
-    pub own : sector_lookup (layer_at s lengths k) x ≡ found_in (Stored sector)
+    pub above : (j : ℕ) → k < j → j < n → sector_lookup (layer_at s lengths j) x ≡ Ok Absent
+    pub own : sector_lookup (layer_at s lengths k) x ≡ Ok (Stored sector)
 
   -- layer n told, or nothing there and told below
-  step : (n : ℕ) (a : LookupAnswer) (below : ChainAnswer) → sector_lookup (layer_at s lengths n) x ≡ a
+  step : (n : ℕ) (a : Result Source Refusal) (below : Result LayerSource LayerRefusal)
+      → sector_lookup (layer_at s lengths n) x ≡ a
       → unless_absent n a below ≡ answer → (below ≡ answer → ToldBelow n) → ToldBelow (suc n)
   unfolding unless_absent
-  step n (refused_in r) below is e down = let z : ◌≡◌ {A = ℕ} 0 1 = cc in absurd (omega arith)
-  step n (found_in Absent) below is e down =
+  step n (Err r) below is e down = let z : ◌≡◌ {A = ℕ} 0 1 = cc in absurd (omega arith)
+  step n (Ok Absent) below is e down =
       let w = down e in
       record {
         inside = omega (arith, w.inside);
         above = λ j l b. ⊎_elim (λ c. w.above j l c) (λ c. let q : n ≡ j = omega arith in rw q at is) (lt_or_ge j n);
         own = w.own;
       }
-  step n (found_in Zero) below is e down =
+  step n (Ok Zero) below is e down =
       let other = source_of_lem e in let z : ◌≡◌ {A = ℕ} 0 1 = cc in absurd (omega arith)
-  step n (found_in (Stored t)) below is e down =
+  step n (Ok (Stored t)) below is e down =
       let here : n ≡ k = ap (λ (v : LayerSource). v.layer) (same_answer e) in
       let other = source_of_lem e in
       let there : t ≡ sector = cc in
@@ -90,7 +92,7 @@ module _ (s lengths : List ℕ) (x k sector : ℕ) where
         above = λ j l b. absurd (omega arith);
         own = rw (here, there) at is;
       }
-  step n (found_in (Packed marker size o)) below is e down =
+  step n (Ok (Packed marker size o)) below is e down =
       let other = source_of_lem e in let z : ◌≡◌ {A = ℕ} 0 1 = cc in absurd (omega arith)
 
   walked : (n : ℕ) → walk_down s lengths x n ≡ answer → ToldBelow n
@@ -124,11 +126,11 @@ stored_source s o sector zero_entry e = let z : ◌≡◌ {A = ℕ} 0 1 = cc in 
 stored_source s o sector (Sector t) e = (t, refl, cc)
 
 -- the source of a sector of an uncompressed layer
-source_is : (s : List ℕ) (c size : ℕ) → Uncompressed c size s → (x : ℕ) → x < c → (a : Source) → sector_lookup s x ≡ found_in a
+source_is : (s : List ℕ) (c size : ℕ) → Uncompressed c size s → (x : ℕ) → x < c → (a : Source) → sector_lookup s x ≡ Ok a
     → entry_source s false (x % size) (own_entry s (x / size)) ≡ a
 source_is s c size u x l a e =
     let low : x < (header_of s).capacity = rw (capacity_is s c size u) l in
-    let same : found_in (source_of s (header_of s) x) ≡ found_in a =
+    let same : Ok (source_of s (header_of s) x) ≡ Ok a =
     sym (served s (accepted_sound s c size u.accepted).0 x low) ∙ e in
     let source : source_of s (header_of s) x ≡ a = cc in
     rw (u.unpacked, size_is s c size u) at source
@@ -136,7 +138,7 @@ source_is s c size u x l a e =
 module _ (s lengths : List ℕ) (c size : ℕ)
     (all : (k : ℕ) → k < length lengths → Uncompressed c size (layer_at s lengths k)) where
   pub stored_comes_from : (x k sector : ℕ)
-      → chain_lookup s lengths x ≡ Found (record { layer = k; source = Stored sector })
+      → chain_lookup s lengths x ≡ Ok (record { layer = k; source = Stored sector })
       → (x < c) × (ComesFrom (length lengths) (layer_at s lengths) size x k sector)
   stored_comes_from x k sector e =
       let p = chain_past s lengths x k sector e in
@@ -158,8 +160,8 @@ module _ (s lengths : List ℕ) (c size : ℕ)
 
   -- two answers of the chain lookup, both stored, never name one layer and one file sector
   pub chain_never_twice : (x y k sector : ℕ) → (x ≡ y → ⊥)
-      → chain_lookup s lengths x ≡ Found (record { layer = k; source = Stored sector })
-      → chain_lookup s lengths y ≡ Found (record { layer = k; source = Stored sector }) → ⊥
+      → chain_lookup s lengths x ≡ Ok (record { layer = k; source = Stored sector })
+      → chain_lookup s lengths y ≡ Ok (record { layer = k; source = Stored sector }) → ⊥
   chain_never_twice x y k sector differ a b =
       let f = stored_comes_from x k sector a in
       let g = stored_comes_from y k sector b in

@@ -16,16 +16,16 @@ use Rattle.format.specs.Frame.{frame_areas}
 use Rattle.format.specs.Check.{check}
 use Rattle.format.specs.declared.Header.{Header}
 use Rattle.format.specs.declared.Entry.TheVariants.{Sector}
-use Rattle.format.specs.declared.CheckAnswer.TheVariants.{Accepted}
 use Rattle.format.proofs.Geometry.{grain_of_lem}
 use Rattle.format.proofs.Held.{held_row, held_rows, held_named}
 use Rattle.format.proofs.ReadAlike.{holders_areas}
 use Rattle.laws.proofs.AcceptedImage.{accepted_sound}
 use Rattle.laws.proofs.ServedSectors.{Good, accepted_good}
 use Rattle.laws.specs.Coverage.{Uncompressed, own_entry, ComesFrom, PayloadByte}
+use Rattle.format.specs.AnswerParts.{accepted_as}
 
 -- ---- one accepted image
-module _ (s : List ℕ) (c size : ℕ) (e : check s ≡ Accepted c size) where
+module _ (s : List ℕ) (c size : ℕ) (e : check s ≡ accepted_as c size) where
   abbrev h : Header
   h = header_of s
 
@@ -120,13 +120,13 @@ served_alone n layer c size all x k e l a =
     (sector_in_lem (layer k) c size u x a.first l a.stored))
 
 -- ---- packed grains
-payload_in : (s : List ℕ) (c size : ℕ) (e : check s ≡ Accepted c size) → (header_of s).packed ≡ true → (g i : ℕ)
+payload_in : (s : List ℕ) (c size : ℕ) (e : check s ≡ accepted_as c size) → (header_of s).packed ≡ true → (g i : ℕ)
     → g < grains_of (header_of s) → PayloadByte s g i → In s c size e g (i / 512)
 unfolding grain_sectors pick
 payload_in s c size e packed g i l p =
     (l, p.first, p.names, omega (arith, p.from), rw packed (omega (arith, p.to)))
 
-pub no_payload_twice : (s : List ℕ) (c size : ℕ) → check s ≡ Accepted c size → (header_of s).packed ≡ true → (g k i : ℕ)
+pub no_payload_twice : (s : List ℕ) (c size : ℕ) → check s ≡ accepted_as c size → (header_of s).packed ≡ true → (g k i : ℕ)
     → g < grains_of (header_of s) → k < grains_of (header_of s) → (g ≡ k → ⊥) → PayloadByte s g i → PayloadByte s k i → ⊥
 no_payload_twice s c size e packed g k i l m differ a b =
     differ (grains_apart s c size e g k (i / 512) (payload_in s c size e packed g i l a) (payload_in s c size e packed k i m b))

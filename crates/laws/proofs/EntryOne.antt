@@ -18,14 +18,11 @@ use Rattle.format.specs.declared.Entry.TheVariants.{Absent as no_entry, Zero as 
 use Rattle.format.specs.declared.Source.{Source}
 use Rattle.format.specs.declared.Source.TheVariants.{Zero}
 use Rattle.format.specs.declared.Refusal.{Refusal}
-use Rattle.format.specs.declared.HeaderAnswer.{HeaderAnswer}
-use Rattle.format.specs.declared.HeaderAnswer.TheVariants.{Known, Refused as header_refused}
-use Rattle.format.specs.declared.LookupAnswer.{LookupAnswer}
-use Rattle.format.specs.declared.LookupAnswer.TheVariants.{Found, Refused}
 use Rattle.format.proofs.Picked.{passed}
 use Rattle.format.proofs.HeaderJudged.{judged_rules}
 use Rattle.laws.proofs.LookupPlain.{lookup_plain}
 use Rattle.laws.proofs.ServedSectors.{accepted_good, served}
+use Rattle.std.specs.Prelude.{Result, Ok, Err}
 
 -- ---- entries, where 1 is a sector
 no_zero : (e : ℕ) → meaning false e ≡ zero_entry → ⊥
@@ -67,30 +64,30 @@ module _ (s : List ℕ) (h : Header) (sector : h.one_is_zero ≡ false) where
 
 -- ---- images
 -- `one_is_zero` of a header that is judged
-judged_sector : (s : List ℕ) (h : Header) → kdmv_one_is_zero (kdmv_fields s) ≡ false → judge s ≡ Known h → h.one_is_zero ≡ false
+judged_sector : (s : List ℕ) (h : Header) → kdmv_one_is_zero (kdmv_fields s) ≡ false → judge s ≡ Ok h → h.one_is_zero ≡ false
 unfolding kdmv_header
 judged_sector s h f e = ap (λ (k : Header). k.one_is_zero) (judged_rules s h e).1 ∙ f
 
 -- what a lookup finds is the source that the entry table gives, also in an image that the check refuses
-found_past : (b : Bool) (r : Refusal) (y : LookupAnswer) (a : Source) → pick b (Refused r) y ≡ Found a → y ≡ Found a
-found_past b r y a e = (passed b (Refused r) y (Found a) (λ q. let z : ◌≡◌ {A = ℕ} 0 1 = cc in omega arith) e).1
+found_past : (b : Bool) (r : Refusal) (y : Result Source Refusal) (a : Source) → pick b (Err r) y ≡ Ok a → y ≡ Ok a
+found_past b r y a e = (passed b (Err r) y (Ok a) (λ q. let z : ◌≡◌ {A = ℕ} 0 1 = cc in omega arith) e).1
 
-found_same : (a b : Source) → Found a ≡ Found b → a ≡ b
+found_same : (a b : Source) → ◌≡◌ {A = Result Source Refusal} (Ok a) (Ok b) → a ≡ b
 found_same a b e = cc
 
-found_source : (s : List ℕ) (h : Header) (x : ℕ) (a : Source) → lookup_in s h x ≡ Found a → source_of s h x ≡ a
+found_source : (s : List ℕ) (h : Header) (x : ℕ) (a : Source) → lookup_in s h x ≡ Ok a → source_of s h x ≡ a
 found_source s h x a q =
     found_same _ _ (found_past _ _ _ a (found_past _ _ _ a (found_past _ _ _ a (found_past _ _ _ a (found_past _ _ _ a
     (sym (lookup_plain s h x) ∙ q))))))
 
-not_zero : (s : List ℕ) (x : ℕ) (a : HeaderAnswer) → kdmv_one_is_zero (kdmv_fields s) ≡ false → judge s ≡ a
-    → lookup_from s x a ≡ Found Zero → ⊥
+not_zero : (s : List ℕ) (x : ℕ) (a : Result Header Refusal) → kdmv_one_is_zero (kdmv_fields s) ≡ false → judge s ≡ a
+    → lookup_from s x a ≡ Ok Zero → ⊥
 unfolding lookup_from
-not_zero s x (header_refused r) f e q = let z : ◌≡◌ {A = ℕ} 0 1 = cc in omega arith
-not_zero s x (Known h) f e q = no_zero_source s h (judged_sector s h f e) x (found_source s h x Zero q)
+not_zero s x (Err r) f e q = let z : ◌≡◌ {A = ℕ} 0 1 = cc in omega arith
+not_zero s x (Ok h) f e q = no_zero_source s h (judged_sector s h f e) x (found_source s h x Zero q)
 
 -- unless the version is 2 or 3 and flag 0x4 is set, no virtual sector is served as zeros
-pub never_zeros : (s : List ℕ) (x : ℕ) → kdmv_one_is_zero (kdmv_fields s) ≡ false → sector_lookup s x ≡ Found Zero → ⊥
+pub never_zeros : (s : List ℕ) (x : ℕ) → kdmv_one_is_zero (kdmv_fields s) ≡ false → sector_lookup s x ≡ Ok Zero → ⊥
 never_zeros s x f q = not_zero s x (judge s) f refl q
 
 -- a version 1 image
@@ -98,7 +95,7 @@ sector_in_one : (s : List ℕ) → le_at s 4 4 ≡ 1 → kdmv_one_is_zero (kdmv_
 unfolding kdmv_fields
 sector_in_one s v = rw v
 
-pub version_one : (s : List ℕ) (x : ℕ) → le_at s 4 4 ≡ 1 → sector_lookup s x ≡ Found Zero → ⊥
+pub version_one : (s : List ℕ) (x : ℕ) → le_at s 4 4 ≡ 1 → sector_lookup s x ≡ Ok Zero → ⊥
 version_one s x v q = never_zeros s x (sector_in_one s v) q
 
 -- ---- virtual sector x, whose directory entry is told by its meaning, and its table entry by its number
@@ -122,32 +119,32 @@ module _ (s : List ℕ) (h : Header) (x : ℕ) where
   source_at_one t sector d e = rw (one_stands s h sector (x / h.grain_size) t d e)
 
   -- so the sector is refused, or served as that
-  pub refused_or_one : (t : ℕ) (a : Source) → judge s ≡ Known h → kdmv_one_is_zero (kdmv_fields s) ≡ false
-      → directory_means (Sector t) → table_holds t 1 → sector_lookup s x ≡ Found a
+  pub refused_or_one : (t : ℕ) (a : Source) → judge s ≡ Ok h → kdmv_one_is_zero (kdmv_fields s) ≡ false
+      → directory_means (Sector t) → table_holds t 1 → sector_lookup s x ≡ Ok a
       → a ≡ grain_source s h.packed (x % h.grain_size) 1
   unfolding lookup_from
   refused_or_one t a known f d e q =
       sym (found_source s h x a (rw known at q)) ∙ source_at_one t (judged_sector s h f known) d e
 
-  pub version_one_or_one : (t : ℕ) (a : Source) → judge s ≡ Known h → le_at s 4 4 ≡ 1 → directory_means (Sector t)
-      → table_holds t 1 → sector_lookup s x ≡ Found a → a ≡ grain_source s h.packed (x % h.grain_size) 1
+  pub version_one_or_one : (t : ℕ) (a : Source) → judge s ≡ Ok h → le_at s 4 4 ≡ 1 → directory_means (Sector t)
+      → table_holds t 1 → sector_lookup s x ≡ Ok a → a ≡ grain_source s h.packed (x % h.grain_size) 1
   version_one_or_one t a known v d e q = refused_or_one t a known (sector_in_one s v) d e q
 
 -- ---- accepted images: no virtual sector below capacity is refused
 module _ (s : List ℕ) (a : AcceptedKdmv s) (x : ℕ) (low : x < (header_of s).capacity) where
   pub one_served : (t : ℕ) → kdmv_one_is_zero (kdmv_fields s) ≡ false → directory_means s (header_of s) x (Sector t)
       → table_holds s (header_of s) x t 1
-      → sector_lookup s x ≡ Found (grain_source s (header_of s).packed (x % (header_of s).grain_size) 1)
+      → sector_lookup s x ≡ Ok (grain_source s (header_of s).packed (x % (header_of s).grain_size) 1)
   one_served t f d e =
       served s a x low
-      ∙ ap Found (source_at_one s (header_of s) x t (judged_sector s (header_of s) f (accepted_good s a).known) d e)
+      ∙ ap Ok (source_at_one s (header_of s) x t (judged_sector s (header_of s) f (accepted_good s a).known) d e)
 
   -- where 1 means zeros it is zeros, in the directory and in a table
-  pub directory_zeros : directory_means s (header_of s) x zero_entry → sector_lookup s x ≡ Found Zero
+  pub directory_zeros : directory_means s (header_of s) x zero_entry → sector_lookup s x ≡ Ok Zero
   unfolding entry_of_grain in_table entry_source
   directory_zeros d = served s a x low ∙ rw d
 
   pub table_zeros : (t : ℕ) → (header_of s).one_is_zero ≡ true → directory_means s (header_of s) x (Sector t)
-      → table_holds s (header_of s) x t 1 → sector_lookup s x ≡ Found Zero
+      → table_holds s (header_of s) x t 1 → sector_lookup s x ≡ Ok Zero
   unfolding entry_of_grain in_table entry_source meaning pick
   table_zeros t zeros d e = served s a x low ∙ rw (d, zeros, e)

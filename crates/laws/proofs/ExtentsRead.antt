@@ -6,21 +6,27 @@ use mathlib.Core.Bool.{Bool, true, false}
 use native.Mathlib.Omega.{arith}
 use native.Mathlib.Nat.{not-suc-le-zero, le_of_suc-le-suc}
 use native.Mathlib.Numerals.{add-one}
-use lib.Dec.{ltb, eqb, lit<}
+use lib.Dec.{ltb, eqb}
 use lib.ListN.{length, take, set, length-set, length-replicate}
 use borrow.Author.Tests.{eqb-false, ltb-false}
 use Rattle.base.specs.Pick.{pick}
 use Rattle.base.proofs.Steps.{or_no, cond_all}
 use Rattle.descriptor.specs.declared.Extent.{Extent}
-use Rattle.descriptor.specs.declared.Line.{Line}
-use Rattle.descriptor.specs.declared.Line.TheVariants.{Skip, Fault, Holds, Key}
+use Rattle.std.specs.Prelude.{Option, None, Some, Result, Ok, Err, IfOk}
+use Rattle.descriptor.specs.declared.KeyValue.{KeyValue}
+use Rattle.descriptor.specs.declared.KeyValue.TheVariants.{Version, Cid, ParentCid, CreateType}
+use Rattle.descriptor.specs.declared.Line.TheVariants.{Skip, Holds, Key}
 use Rattle.descriptor.specs.declared.State.{State}
+use Rattle.descriptor.specs.declared.Quoted.{Quoted}
+use Rattle.descriptor.specs.declared.Parsed.{Parsed}
+use Rattle.descriptor.specs.declared.TextRefusal.{TextRefusal}
+use Rattle.descriptor.specs.Said.{Said}
 use Rattle.descriptor.specs.Text.{Span, lines, text_of, end_of, bytes_of}
 use Rattle.descriptor.specs.Words.{trim}
 use Rattle.descriptor.specs.Line.{line}
-use Rattle.descriptor.specs.Descriptor.{no_extent, start, refused, skipped, opened, added, noted, once, taken, judged_line}
-use Rattle.descriptor.specs.Descriptor.{step}
-use Rattle.descriptor.specs.Descriptor.{extents_bad, missing, judged_end, ended, judged, judged_text, read_text}
+use Rattle.descriptor.specs.Descriptor.{no_extent, start, skipped, opened, added, noted, once, taken, judged_line, step}
+use Rattle.descriptor.specs.Descriptor.{extents_bad, judged_end, accepted, needed, ended, unless_refused, judged}
+use Rattle.descriptor.specs.Descriptor.{judged_text, read_text}
 use Rattle.laws.proofs.ExtentsLaid.{Laid, laid_more}
 use Rattle.laws.proofs.ExtentsLines.{Starts, extent_at, line_starts}
 
@@ -38,14 +44,12 @@ take_set (r ∷ rs) (suc n) e h = ap (λ (l : List Extent). r ∷ l) (take_set r
 start_known : Known start
 start_known = record { slots = length-replicate 32 no_extent; laid = λ h. refl }
 
+-- P of what comes, unless there is a refusal
+either : {A : Type 0} (P : A → Type 0) (b : Bool) (x y : Result A TextRefusal)
+    → (b ≡ true → IfOk x P) → (b ≡ false → IfOk y P) → IfOk (pick b x y) P
+either P b x y f g = cond_all (λ r. IfOk r P) b x y f g
+
 module _ (st : State) (k : Known st) where
-  either : (b : Bool) (x y : State) → (b ≡ true → Known x) → (b ≡ false → Known y) → Known (pick b x y)
-  either b x y f g = cond_all Known b x y f g
-
-  refused_known : (number place : ℕ) → Known (refused number place st)
-  unfolding refused
-  refused_known number place = record { slots = k.slots; laid = k.laid }
-
   skipped_known : Known (skipped st)
   unfolding skipped
   skipped_known = record { slots = k.slots; laid = k.laid }
@@ -73,60 +77,32 @@ module _ (st : State) (k : Known st) where
             (laid_more 0 st.sum before e (k.laid (omega arith)) q h);
       }
 
-  once_known : (key value value_length : ℕ) → Known (once key value value_length st)
-  unfolding once noted
-  once_known key value value_length =
-      either _ _ _ (λ e. record { slots = k.slots; laid = k.laid }) (λ e. refused_known 33 (st.line + 1))
+  noted_known : (key : KeyValue) → Known (noted key st)
+  unfolding noted
+  noted_known (Version n) = record { slots = k.slots; laid = k.laid }
+  noted_known (Cid n) = record { slots = k.slots; laid = k.laid }
+  noted_known (ParentCid n) = record { slots = k.slots; laid = k.laid }
+  noted_known (CreateType part) = record { slots = k.slots; laid = k.laid }
 
-  taken_known : (l : Line) → Starts st.sum l → Known (taken st l)
-  taken_known Skip s = skipped_known
-  taken_known (Fault number) s = refused_known number (st.line + 1)
-  taken_known (Holds e) (extent_at q h) = added_known e q h
-  taken_known (Key number value value_length) s = once_known number value value_length
+  once_known : (key : KeyValue) → IfOk (once key st) Known
+  unfolding once
+  once_known key = either Known _ _ _ (λ e. noted_known key) (λ e. tt)
 
-  line_known : (end : ℕ) (w : List ℕ) → Known (judged_line st end w)
+  taken_known : (l : Said) → Starts st.sum l → IfOk (taken st l) Known
+  taken_known (Ok Skip) s = skipped_known
+  taken_known (Ok (Holds e)) (extent_at q h) = added_known e q h
+  taken_known (Ok (Key value)) s = once_known value
+  taken_known (Err fault) s = tt
+
+  line_known : (end : ℕ) (w : List ℕ) → IfOk (judged_line st end w) Known
   unfolding judged_line
   line_known end w =
-      either _ _ _ (λ e. taken_known (line st.sum end w) (line_starts st.sum end w))
-      (λ e. either _ _ _ (λ e. skipped_known) (λ e. either _ _ _ (λ e. opened_known) (λ e. refused_known 30 0)))
+      either Known _ _ _ (λ e. taken_known (line st.sum end w) (line_starts st.sum end w))
+      (λ e. either Known _ _ _ (λ e. skipped_known) (λ e. either Known _ _ _ (λ e. opened_known) (λ e. tt)))
 
-  step_known : (text : List ℕ) (l : Span) → Known (step text st l)
+  step_known : (text : List ℕ) (l : Span) → IfOk (step text st l) Known
   unfolding step
   step_known text l = line_known (end_of text l) (trim (bytes_of text l))
-
--- ---- at the end
--- and if there is no refusal, the extents' number and sum are within bounds
-pub record Read (st : State) : Type 0 where
-  pub known : Known st
-  pub good : st.number ≡ 0 → extents_bad st ≡ false
-
-refused_read : (number place : ℕ) (st : State) → 0 < number → Known st → Read (refused number place st)
-unfolding refused
-refused_read number place st h k = record { known = refused_known st k number place; good = λ e. absurd (omega arith) }
-
-ended_read : (st : State) → Known st → Read (ended st)
-unfolding ended judged_end
-ended_read st k =
-    cond_all Read _ _ _
-    (λ e. cond_all Read (missing st.values) _ _ (λ e. refused_read 33 0 st (lit< tt) k)
-    (λ e. cond_all Read (extents_bad st) _ _ (λ e. refused_read 35 0 st (lit< tt) k)
-    (λ e. record { known = k; good = λ z. e })))
-    (λ e. refused_read 30 0 st (lit< tt) k)
-
-judged_read : (text : List ℕ) (st : State) (ls : List Span) → Known st → Read (judged text st ls)
-unfolding judged
-judged_read text st [] k = ended_read st k
-judged_read text st (l ∷ ls) k =
-    let s = step_known st k text l in
-    cond_all Read _ _ _ (λ e. judged_read text (step text st l) ls s)
-    (λ e. record { known = s; good = λ z. absurd (eqb-false _ _ e z) })
-
-pub text_read : (s : List ℕ) → Read (read_text s)
-unfolding read_text judged_text
-text_read s =
-    cond_all Read _ _ _ (λ e. refused_read 36 0 start (lit< tt) start_known)
-    (λ e. cond_all Read _ _ _ (λ e. judged_read (text_of s) start (lines (text_of s)) start_known)
-    (λ e. refused_read 31 0 start (lit< tt) start_known))
 
 -- ---- what the bounds say
 module _ (st : State) (good : extents_bad st ≡ false) where
@@ -141,3 +117,65 @@ module _ (st : State) (good : extents_bad st ≡ false) where
 
   pub small_sum : st.sum ≤ 0x80000000
   small_sum = ltb-false _ _ within.1
+
+-- ---- at the end
+-- what comes of a text: its extents lie end to end from sector 0 up to their sum, and their number and sum are within bounds
+pub record Read (p : Parsed) : Type 0 where
+  pub sum : ℕ
+  pub slots : length p.records ≡ 32
+  pub laid : Laid 0 (take p.count p.records) sum
+  pub some : 0 < p.count
+  pub few : p.count ≤ 32
+  pub small : sum ≤ 0x80000000
+  pub none : p.answer.number ≡ 0
+  pub told : p.answer.extents ≡ p.count
+
+module _ (st : State) (k : Known st) where
+  accepted_read : (version cid parent_cid : ℕ) (create_type : Quoted) → extents_bad st ≡ false
+      → Read (accepted st version cid parent_cid create_type)
+  accepted_read version cid parent_cid create_type good =
+      record {
+        sum = st.sum;
+        slots = k.slots;
+        laid = k.laid (few_extents st good);
+        some = some_extent st good;
+        few = few_extents st good;
+        small = small_sum st good;
+        none = refl;
+        told = refl;
+      }
+
+  there : {A : Type 0} (o : Option A) (f : A → Result Parsed TextRefusal) → ((x : A) → IfOk (f x) Read)
+      → IfOk (needed o f) Read
+  there None f g = tt
+  there (Some x) f g = g x
+
+  ended_read : IfOk (ended st) Read
+  unfolding ended judged_end
+  ended_read =
+      either Read _ _ _
+      (λ e. there st.version _ (λ version. there st.cid _ (λ cid. there st.parent_cid _ (λ parent_cid.
+      there st.create_type _ (λ create_type.
+      either Read (extents_bad st) _ _ (λ e. tt) (λ e. accepted_read version cid parent_cid create_type e))))))
+      (λ e. tt)
+
+carried : (r : Result State TextRefusal) (f : State → Result Parsed TextRefusal) → IfOk r Known
+    → ((s : State) → Known s → IfOk (f s) Read)
+    → IfOk (unless_refused r f) Read
+carried (Ok s) f k g = g s k
+carried (Err e) f k g = tt
+
+judged_read : (text : List ℕ) (st : State) (ls : List Span) → Known st → IfOk (judged text st ls) Read
+unfolding judged
+judged_read text st [] k = ended_read st k
+judged_read text st (l ∷ ls) k =
+    carried (step text st l) (λ s. judged text s ls) (step_known st k text l) (λ s m. judged_read text s ls m)
+
+all_read : (s : List ℕ) → IfOk (read_text s) Read
+unfolding read_text
+all_read s =
+    either Read _ _ _ (λ e. tt)
+    (λ e. either Read _ _ _ (λ e. judged_read (text_of s) start (lines (text_of s)) start_known) (λ e. tt))
+
+pub text_read : (s : List ℕ) (p : Parsed) → read_text s ≡ Ok p → Read p
+text_read s p e = subst (λ (r : Result Parsed TextRefusal). IfOk r Read) e (all_read s)

@@ -26,9 +26,6 @@ use Rattle.format.specs.Frame.{frame_from, frame, frame_list}
 use Rattle.format.specs.Survey.{row_of}
 use Rattle.format.specs.Judged.{Sound}
 use Rattle.format.specs.declared.Header.{Header}
-use Rattle.format.specs.declared.HeaderAnswer.{HeaderAnswer}
-use Rattle.format.specs.declared.HeaderAnswer.TheVariants.{Known, Refused as unknown}
-use Rattle.format.specs.declared.FrameAnswer.TheVariants.{Listed}
 use Rattle.format.proofs.HeaderJudged.{judged_rules, judged_header}
 use Rattle.format.proofs.HeaderSound.{sound_of}
 use Rattle.format.proofs.Places.{redundant_tables_lem}
@@ -43,15 +40,17 @@ use Rattle.laws.proofs.UsedSteps.{used_steps}
 use Rattle.laws.proofs.UsedCheckIn.{used_check_in, used_lent}
 use Rattle.laws.proofs.UsedChain.{used_chain}
 use Rattle.laws.proofs.UsedCollapse.{used_collapse, used_normal}
+use Rattle.std.specs.Prelude.{Result, Ok, Err}
+use Rattle.format.specs.declared.Refusal.{Refusal}
 
 -- ---- an image that has a frame has a header
-listed_known : (s : List ℕ) (room count : ℕ) (a : HeaderAnswer) → frame_from s room a ≡ Listed count
-    → (h : Header) × (a ≡ Known h)
+listed_known : (s : List ℕ) (room count : ℕ) (a : Result Header Refusal) → frame_from s room a ≡ Ok count
+    → (h : Header) × (a ≡ Ok h)
 unfolding frame_from
-listed_known s room count (unknown r) e = let z : ◌≡◌ {A = ℕ} 0 1 = cc in absurd (omega arith)
-listed_known s room count (Known h) e = (h, refl)
+listed_known s room count (Err r) e = let z : ◌≡◌ {A = ℕ} 0 1 = cc in absurd (omega arith)
+listed_known s room count (Ok h) e = (h, refl)
 
-header_some : (s : List ℕ) (h : Header) → judge s ≡ Known h → 1 ≤ h.header_sectors
+header_some : (s : List ℕ) (h : Header) → judge s ≡ Ok h → 1 ≤ h.header_sectors
 unfolding kdmv_header
 header_some s h e = rw (judged_rules s h e).1 (lit≤ tt)
 
@@ -107,10 +106,10 @@ module _ (s t : List ℕ) (h : Header) (sound : Sound h) (directory : ℕ)
 
 -- ---- all that decides lies in the frame and the markers
 module _ (s t : List ℕ) (both : SameFrame s t) where
-  known : judge s ≡ Known (header_of s)
+  known : judge s ≡ Ok (header_of s)
   known =
       let r = listed_known s both.room both.list_count (judge s) both.listed in
-      r.1 ∙ ap Known (judged_header s r.0 r.1)
+      r.1 ∙ ap Ok (judged_header s r.0 r.1)
 
   pub parts : SameGroups s t (header_of s)
   parts = groups s t (header_of s) both.areas

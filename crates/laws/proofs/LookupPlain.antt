@@ -16,9 +16,10 @@ use Rattle.format.specs.declared.Entry.{Entry}
 use Rattle.format.specs.declared.Entry.TheVariants.{Absent, Zero, Sector}
 use Rattle.format.specs.declared.MisplacedPart.TheVariants.{Directory, PrimaryTable}
 use Rattle.format.specs.declared.Refusal.TheVariants.{Misplaced, GrainPast, Marker, SectorPast}
-use Rattle.format.specs.declared.LookupAnswer.{LookupAnswer}
-use Rattle.format.specs.declared.LookupAnswer.TheVariants.{Found, Refused}
 use Rattle.format.proofs.Inside.{past_one}
+use Rattle.std.specs.Prelude.{Result, Ok, Err}
+use Rattle.format.specs.declared.Source.{Source}
+use Rattle.format.specs.declared.Refusal.{Refusal}
 
 and-false : (b : Bool) → (b && false) ≡ false
 and-false true = refl
@@ -32,10 +33,10 @@ table_past s h g =
 
 module _ (s : List ℕ) (h : Header) (g o : ℕ) where
   -- 9 and 10 of a grain, from its entry on
-  abbrev judged : Entry → LookupAnswer
+  abbrev judged : Entry → Result Source Refusal
   judged d =
-      pick (runs_past (file_sectors s) (named (grain_sectors s h.packed h.grain_size) d)) (Refused (GrainPast g))
-      (pick (h.packed && marker_broken_at s h.grain_size g d) (Refused (Marker g)) (Found (entry_source s h.packed o d)))
+      pick (runs_past (file_sectors s) (named (grain_sectors s h.packed h.grain_size) d)) (Err (GrainPast g))
+      (pick (h.packed && marker_broken_at s h.grain_size g d) (Err (Marker g)) (Ok (entry_source s h.packed o d)))
 
   entry_judged : (d : Entry) → lookup_entry s h g o d ≡ judged d
   unfolding pick named runs_past marker_broken_at entry_source lookup_entry lookup_grain
@@ -45,7 +46,7 @@ module _ (s : List ℕ) (h : Header) (g o : ℕ) where
       rw (past_one (file_sectors s) (area e (grain_sectors s h.packed h.grain_size e)))
 
   table_judged : (d : Entry) → lookup_table s h g o d
-      ≡ pick (runs_past (file_sectors s) (named (λ e. h.table_sectors) d)) (Refused (Misplaced PrimaryTable))
+      ≡ pick (runs_past (file_sectors s) (named (λ e. h.table_sectors) d)) (Err (Misplaced PrimaryTable))
       (judged (in_table s h.one_is_zero (g % h.entries_per_table) d))
   unfolding pick named runs_past marker_broken_at entry_source in_table lookup_table
   table_judged Absent = rw (and-false h.packed)
@@ -58,14 +59,14 @@ module _ (s : List ℕ) (h : Header) (g o : ℕ) where
       )
 
 pub lookup_plain : (s : List ℕ) (h : Header) (x : ℕ) → lookup_in s h x
-    ≡ pick (leb h.capacity x) (Refused SectorPast)
-    (pick (directory_misplaced (file_sectors s) h) (Refused (Misplaced Directory))
-    (pick (table_past s h (x / h.grain_size)) (Refused (Misplaced PrimaryTable))
-    (pick (grain_past s h (x / h.grain_size)) (Refused (GrainPast (x / h.grain_size)))
-    (pick (bad_marker s h (x / h.grain_size)) (Refused (Marker (x / h.grain_size))) (Found (source_of s h x))))))
+    ≡ pick (leb h.capacity x) (Err SectorPast)
+    (pick (directory_misplaced (file_sectors s) h) (Err (Misplaced Directory))
+    (pick (table_past s h (x / h.grain_size)) (Err (Misplaced PrimaryTable))
+    (pick (grain_past s h (x / h.grain_size)) (Err (GrainPast (x / h.grain_size)))
+    (pick (bad_marker s h (x / h.grain_size)) (Err (Marker (x / h.grain_size))) (Ok (source_of s h x))))))
 unfolding lookup_in entry_of_grain
 lookup_plain s h x =
-    ap (λ a. pick (leb h.capacity x) (Refused SectorPast)
-    (pick (directory_misplaced (file_sectors s) h) (Refused (Misplaced Directory)) a))
+    ap (λ a. pick (leb h.capacity x) (Err SectorPast)
+    (pick (directory_misplaced (file_sectors s) h) (Err (Misplaced Directory)) a))
     (table_judged s h (x / h.grain_size) (x % h.grain_size)
     (meaning_at s h.one_is_zero h.directory (x / h.grain_size / h.entries_per_table)))

@@ -23,7 +23,6 @@ use Rattle.format.specs.declared.Header.{Header}
 use Rattle.format.specs.declared.Side.{Side}
 use Rattle.format.specs.declared.Entry.{Entry}
 use Rattle.format.specs.declared.Entry.TheVariants.{Absent, Zero, Sector}
-use Rattle.format.specs.declared.MendAnswer.TheVariants.{Mended}
 use Rattle.format.proofs.BytesAt.{part_long}
 use Rattle.format.proofs.Entries.{no_some}
 use Rattle.format.proofs.HeaderJudged.{judged_header}
@@ -35,6 +34,7 @@ use Rattle.format.proofs.MendedBytes.{good_room, other_room}
 use Rattle.format.proofs.MendedRead.{good_entry_lem, other_entry_lem, good_bytes, good_table, good_tables, other_tables}
 use Rattle.laws.proofs.MendedImage.{told, image_is, parts, apart, changed, kinds, mended_judged, mended_passed}
 use Rattle.laws.proofs.MendedList.{none_listed}
+use Rattle.std.specs.Prelude.{Ok}
 
 -- bytes over bytes that are the same
 over_alike : (m : List ℕ) (at from n : ℕ) → at + n ≤ length m → from + n ≤ length m
@@ -65,7 +65,7 @@ module _ (m : List ℕ) (g : Header) where
   tables_alike (suc d) same =
       rw (tables_alike d (λ k l. same k (omega arith))) (table_alike (entries_in_use g d) _ _ (same d (omega arith)))
 
-module _ (s : List ℕ) (side : Side) (list : List ℕ) (n : ℕ) (e : mend s side (length list) ≡ Mended n) where
+module _ (s : List ℕ) (side : Side) (list : List ℕ) (n : ℕ) (e : mend s side (length list) ≡ Ok n) where
   abbrev g : Header
   g = from_good side (header_of s)
 
@@ -146,7 +146,7 @@ module _ (s : List ℕ) (side : Side) (list : List ℕ) (n : ℕ) (e : mend s si
       let sided = (told s side list n e).sided in
       rw (← judged_header s sided.header sided.judged) sided.two
 
-  again : (room : ℕ) → mend m side room ≡ Mended 0
+  again : (room : ℕ) → mend m side room ≡ Ok 0
   unfolding mend_from mend_good mended_if_room pick
   again room =
       rw (
@@ -158,7 +158,7 @@ module _ (s : List ℕ) (side : Side) (list : List ℕ) (n : ℕ) (e : mend s si
       )
       (pick_else _ _ _ (le-ltb room 0 (omega arith)))
 
-  pub mended_again : (room : ℕ) → mend (mended_image s side list) side room ≡ Mended 0
+  pub mended_again : (room : ℕ) → mend (mended_image s side list) side room ≡ Ok 0
   mended_again room = rw (image_is s side list n e) (again room)
 
   module _ (more : List ℕ) where

@@ -24,11 +24,6 @@ use Rattle.format.specs.declared.Header.{Header}
 use Rattle.format.specs.declared.Side.{Side}
 use Rattle.format.specs.declared.Entry.TheVariants.{Sector}
 use Rattle.format.specs.declared.Refusal.{Refusal}
-use Rattle.format.specs.declared.HeaderAnswer.{HeaderAnswer}
-use Rattle.format.specs.declared.HeaderAnswer.TheVariants.{Known, Refused as unknown}
-use Rattle.format.specs.declared.CheckAnswer.TheVariants.{Accepted}
-use Rattle.format.specs.declared.MendAnswer.{MendAnswer}
-use Rattle.format.specs.declared.MendAnswer.TheVariants.{Mended, Refused}
 use Rattle.format.proofs.Areas.{meet_apart}
 use Rattle.format.proofs.HeaderJudged.{judged_header}
 use Rattle.format.proofs.Entries.{some_no}
@@ -41,13 +36,15 @@ use Rattle.format.proofs.Picked.{passed, true_no}
 use Rattle.base.proofs.Steps.{lt_or_ge}
 use Rattle.laws.specs.StillOpen.{SomeAccepted}
 use Rattle.laws.specs.Mended.{InUse}
+use Rattle.std.specs.Prelude.{Result, Ok, Err}
+use Rattle.format.specs.AnswerParts.{accepted_as}
 
 -- ---- what an answer tells of the way to it
-mended_past : (b : Bool) (r : Refusal) (y : MendAnswer) (n : ℕ) → pick b (Refused r) y ≡ Mended n
-    → (b ≡ false) × (y ≡ Mended n)
-mended_past b r y n e = passed b (Refused r) y (Mended n) (λ q. let z : ◌≡◌ {A = ℕ} 0 1 = cc in omega arith) e
+mended_past : (b : Bool) (r : Refusal) (y : Result ℕ Refusal) (n : ℕ) → pick b (Err r) y ≡ Ok n
+    → (b ≡ false) × (y ≡ Ok n)
+mended_past b r y n e = passed b (Err r) y (Ok n) (λ q. let z : ◌≡◌ {A = ℕ} 0 1 = cc in omega arith) e
 
-same_count : (m n : ℕ) → Mended m ≡ Mended n → m ≡ n
+same_count : (m n : ℕ) → ◌≡◌ {A = Result ℕ Refusal} (Ok m) (Ok n) → m ≡ n
 same_count m n e = cc
 
 -- s is mended from a side: g is its header as read from there
@@ -58,11 +55,12 @@ pub record Answered (s : List ℕ) (side : Side) (room n : ℕ) (g : Header) : T
   pub fits : length (changes s g) ≤ room
   pub count : length (changes s g) / 3 ≡ n
 
-from_answered : (s : List ℕ) (side : Side) (room n : ℕ) (a : HeaderAnswer) → judge s ≡ a → mend_from s side room a ≡ Mended n
+from_answered : (s : List ℕ) (side : Side) (room n : ℕ) (a : Result Header Refusal) → judge s ≡ a → mend_from s side room a
+    ≡ Ok n
     → Answered s side room n (from_good side (header_of s))
 unfolding mend_from mend_good mended_if_room
-from_answered s side room n (unknown r) j e = let z : ◌≡◌ {A = ℕ} 0 1 = cc in absurd (omega arith)
-from_answered s side room n (Known h) j e =
+from_answered s side room n (Err r) j e = let z : ◌≡◌ {A = ℕ} 0 1 = cc in absurd (omega arith)
+from_answered s side room n (Ok h) j e =
     let a = mended_past (misplaced s h) _ _ n e in
     let b = mended_past (eqb h.redundant 0) _ _ n a.1 in
     let g = from_good side h in
@@ -83,13 +81,13 @@ module _ (s : List ℕ) (side : Side) (list : List ℕ) where
   good = from_good side (header_of s)
 
   -- ---- on a refusal all is as lent
-  pub refused_kept : (r : Refusal) → mend s side (length list) ≡ Refused r
+  pub refused_kept : (r : Refusal) → mend s side (length list) ≡ Err r
       → (mended_image s side list ≡ s) × (mended_list s side list ≡ list)
   unfolding after_mend
   refused_kept r e = rw e (refl, refl)
 
   -- ---- after an answer
-  module _ (n : ℕ) (e : mend s side (length list) ≡ Mended n) where
+  module _ (n : ℕ) (e : mend s side (length list) ≡ Ok n) where
     pub told : Answered s side (length list) n good
     told = from_answered s side (length list) n (judge s) refl e
 
@@ -121,8 +119,8 @@ module _ (s : List ℕ) (side : Side) (list : List ℕ) where
     pub accepted : SomeAccepted (mended s good)
     accepted = not_refused (check (mended s good)) parts.1
 
-    known : (h : Header) × (judge (mended s good) ≡ Known h)
-        × (check_layout (mended s good) h ≡ Accepted accepted.0 accepted.1)
+    known : (h : Header) × (judge (mended s good) ≡ Ok h)
+        × (check_layout (mended s good) h ≡ accepted_as accepted.0 accepted.1)
     known = header_passed (mended s good) (judge (mended s good)) accepted.0 accepted.1 accepted.2
 
     same : known.0 ≡ header_of s
@@ -130,13 +128,13 @@ module _ (s : List ℕ) (side : Side) (list : List ℕ) where
         same_header s good told.sided (mended s good) apart changed kinds known.0 known.1
         ∙ judged_header s told.sided.header told.sided.judged
 
-    pub mended_judged : judge (mended s good) ≡ Known (header_of s)
-    mended_judged = known.1 ∙ ap Known same
+    pub mended_judged : judge (mended s good) ≡ Ok (header_of s)
+    mended_judged = known.1 ∙ ap Ok same
 
     pub mended_passed : Passed (mended s good) (header_of s) accepted.0 accepted.1
     mended_passed = rw same at (layout_passed (mended s good) known.0 accepted.0 accepted.1 known.2)
 
-    pub mended_accepted : check (mended_image s side list) ≡ Accepted (header_of s).capacity (header_of s).grain_size
+    pub mended_accepted : check (mended_image s side list) ≡ accepted_as (header_of s).capacity (header_of s).grain_size
     mended_accepted = rw image_is (rw (mended_passed.capacity, mended_passed.size) at accepted.2)
 
     pub header_kept : header_of (mended_image s side list) ≡ header_of s

@@ -21,12 +21,12 @@ use Rattle.format.specs.Entries.{entry_at}
 use Rattle.format.specs.Mend.{from_good, good_entry, other_entry, change_of, change_at, changes, mend, mended_list}
 use Rattle.format.specs.declared.Header.{Header}
 use Rattle.format.specs.declared.Side.{Side}
-use Rattle.format.specs.declared.MendAnswer.TheVariants.{Mended}
 use Rattle.format.specs.declared.Entry.{Entry}
 use Rattle.format.specs.declared.Entry.TheVariants.{Absent, Zero, Sector}
 use Rattle.format.proofs.Picked.{pick_then}
 use Rattle.laws.specs.Mended.{Differing, TellsAt}
 use Rattle.laws.proofs.MendedImage.{told, list_is}
+use Rattle.std.specs.Prelude.{Ok}
 
 -- three words, the first of which is the row's number
 record Change (f : ℕ → List ℕ) (x : ℕ) : Type 0 where
@@ -204,7 +204,7 @@ module _ (s : List ℕ) (g : Header) where
   changes_threes = threes (change_at s g) each_change (grains_of g)
 
 -- ---- the lent list after an answer
-module _ (s : List ℕ) (side : Side) (list : List ℕ) (n : ℕ) (e : mend s side (length list) ≡ Mended n) where
+module _ (s : List ℕ) (side : Side) (list : List ℕ) (n : ℕ) (e : mend s side (length list) ≡ Ok n) where
   abbrev words : List ℕ
   words = changes s (from_good side (header_of s))
 

@@ -24,10 +24,6 @@ use Rattle.format.specs.declared.MisplacedPart.{MisplacedPart}
 use Rattle.format.specs.declared.MisplacedPart.TheVariants.{Descriptor, Directory, RedundantDirectory}
 use Rattle.format.specs.declared.MisplacedPart.TheVariants.{PrimaryTable, RedundantTable}
 use Rattle.format.specs.declared.Refusal.TheVariants.{Misplaced}
-use Rattle.format.specs.declared.HeaderAnswer.{HeaderAnswer}
-use Rattle.format.specs.declared.HeaderAnswer.TheVariants.{Known, Refused as unknown}
-use Rattle.format.specs.declared.CheckAnswer.{CheckAnswer}
-use Rattle.format.specs.declared.CheckAnswer.TheVariants.{Accepted, Refused}
 use Rattle.format.proofs.Areas.{past_append}
 use Rattle.format.proofs.HeaderRefusals.{judge_refuses}
 use Rattle.format.proofs.Inside.{past_one, none_in, table_in}
@@ -38,6 +34,9 @@ use Rattle.laws.specs.Misplaced.{DescriptorMisplaced, DirectoryMisplaced, TableM
 use Rattle.laws.specs.Misplaced.DescriptorMisplaced.{sector_zero, sectors_zero, past}
 use Rattle.laws.specs.Misplaced.DirectoryMisplaced.{sector_zero as at_zero, past as directory_past}
 use Rattle.laws.proofs.FrameChecked.{grains_late}
+use Rattle.std.specs.Prelude.{Result, Ok, Err}
+use Rattle.format.specs.declared.Shape.{Shape}
+use Rattle.format.specs.declared.Refusal.{Refusal}
 
 -- ---- a list of areas of which one runs past F: which one
 module _ (f : ℕ) where
@@ -132,16 +131,16 @@ module _ (s : List ℕ) (h : Header) where
   none_lower : (part : MisplacedPart) → Applies s h part → part_number (lowest_misplaced s h) ≤ part_number part
   none_lower part p = tested_lowest s h part (applied part p)
 
-  grains_other : (a : CheckAnswer) → check_grains s h ≡ a → (verdict a).number ≡ 8 → ⊥
-  grains_other (Accepted c size) e n = omega arith
-  grains_other (Refused r) e n = omega (arith, grains_late s h r e)
+  grains_other : (a : Result Shape Refusal) → check_grains s h ≡ a → (verdict a).number ≡ 8 → ⊥
+  grains_other (Ok sizes) e n = omega arith
+  grains_other (Err r) e n = omega (arith, grains_late s h r e)
 
 -- ---- the check: 8 with this place exactly where it is the lowest part's
-eight_from : (s : List ℕ) (a : HeaderAnswer) → judge s ≡ a → (verdict (check_from s a)).number ≡ 8
+eight_from : (s : List ℕ) (a : Result Header Refusal) → judge s ≡ a → (verdict (check_from s a)).number ≡ 8
     → LowestPart s (verdict (check_from s a)).place
 unfolding check_from check_layout
-eight_from s (unknown r) j e = absurd (judge_refuses s r j 8 (omega arith) (omega arith) e)
-eight_from s (Known h) j e =
+eight_from s (Err r) j e = absurd (judge_refuses s r j 8 (omega arith) (omega arith) e)
+eight_from s (Ok h) j e =
     cond_all (λ a. (verdict a).number ≡ 8 → LowestPart s (verdict a).place) (misplaced s h) _ _
     (λ m n. record {
       header = h;
@@ -167,4 +166,4 @@ lowest_eight s p w =
     ⊎_elim (λ l. absurd (w.lowest (lowest_misplaced s h) l (lowest_applies s h m)))
     (λ l. let k = none_lower s h w.part w.applies in let e = w.is in omega arith)
     (lt_or_ge (part_number (lowest_misplaced s h)) p) in
-    rw (w.judged, pick_then (misplaced s h) (Refused (Misplaced (lowest_misplaced s h))) (check_grains s h) m, is)
+    rw (w.judged, pick_then (misplaced s h) (Err (Misplaced (lowest_misplaced s h))) (check_grains s h) m, is)

@@ -12,12 +12,12 @@ use Rattle.format.specs.Collapse.{if_accepted, still_open, written_if_room, outp
 use Rattle.format.specs.Moves.{form_as, not_taken, not_movable, move_from, move_to, move_output}
 use Rattle.format.specs.declared.Taken.TheVariants.{Either}
 use Rattle.format.specs.declared.Kind.{Kind}
-use Rattle.format.specs.declared.CollapseAnswer.TheVariants.{Written}
 use Rattle.format.proofs.Picked.{pick_else}
 use Rattle.laws.specs.MovedImages.{opposite, Movable}
 use Rattle.laws.proofs.AcceptedImage.{either_sound, either_complete}
 use Rattle.laws.proofs.CollapsedAnswer.{was_accepted, written_past, written_long}
 use Rattle.laws.proofs.MovedImages.{moved_length, moved_movable, there_and_back}
+use Rattle.std.specs.Prelude.{Ok}
 
 -- an image that the move takes is refused 21 or nothing
 pub movable_moves : (kind : Kind) {s : List ℕ} → Movable kind s → (room : ℕ)
@@ -28,7 +28,7 @@ movable_moves kind {s} p room =
     (pick_else _ _ _ p.taken ∙ pick_else _ _ _ p.clean ∙ pick_else _ _ _ p.held
     ∙ ap (written_if_room room) (sym (moved_length kind p)))
 
-module _ (kind : Kind) (s : List ℕ) (room long : ℕ) (e : move_to kind s room ≡ Written long) where
+module _ (kind : Kind) (s : List ℕ) (room long : ℕ) (e : move_to kind s room ≡ Ok long) where
   -- what was written came of such an image, and fits
   pub move_movable : (Movable kind s) × (long ≡ length (form_as kind s)) × (long ≤ room)
   unfolding move_from
@@ -47,14 +47,14 @@ module _ (kind : Kind) (s : List ℕ) (room long : ℕ) (e : move_to kind s room
       (p, f.0, f.1)
 
 -- the output begins with the image
-pub move_output_lem : (kind : Kind) (s out : List ℕ) (long : ℕ) → move_to kind s (length out) ≡ Written long
+pub move_output_lem : (kind : Kind) (s out : List ℕ) (long : ℕ) → move_to kind s (length out) ≡ Ok long
     → take long (move_output kind s out) ≡ form_as kind s
 unfolding output over
 move_output_lem kind s out long e =
     rw (e, (move_movable kind s (length out) long e).1) (take-append_seam (form_as kind s) _)
 
 -- ---- there and back by the calls, whatever outputs are lent
-module _ (kind : Kind) (s out : List ℕ) (long : ℕ) (e : move_to kind s (length out) ≡ Written long) where
+module _ (kind : Kind) (s out : List ℕ) (long : ℕ) (e : move_to kind s (length out) ≡ Ok long) where
   -- the second call refuses 21 or nothing
   pub back_moves : (room : ℕ)
       → move_to (opposite kind) (take long (move_output kind s out)) room ≡ written_if_room room
@@ -65,7 +65,7 @@ module _ (kind : Kind) (s out : List ℕ) (long : ℕ) (e : move_to kind s (leng
       ∙ ap (λ (t : List ℕ). written_if_room room (length t)) (there_and_back kind p)
 
   pub back_output : (back : List ℕ) (more : ℕ)
-      → move_to (opposite kind) (take long (move_output kind s out)) (length back) ≡ Written more
+      → move_to (opposite kind) (take long (move_output kind s out)) (length back) ≡ Ok more
       → take more (move_output (opposite kind) (take long (move_output kind s out)) back) ≡ form_as (opposite kind) s
   back_output back more f =
       move_output_lem (opposite kind) _ back more f ∙ ap (form_as (opposite kind)) (move_output_lem kind s out long e)

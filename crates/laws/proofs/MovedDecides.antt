@@ -31,9 +31,6 @@ use Rattle.format.specs.declared.Header.{Header}
 use Rattle.format.specs.declared.Entry.{Entry}
 use Rattle.format.specs.declared.MisplacedPart.TheVariants.{Directory}
 use Rattle.format.specs.declared.Refusal.TheVariants.{Misplaced}
-use Rattle.format.specs.declared.HeaderAnswer.{HeaderAnswer}
-use Rattle.format.specs.declared.HeaderAnswer.TheVariants.{Known, Refused as unknown}
-use Rattle.format.specs.declared.CheckAnswer.TheVariants.{Accepted, Refused}
 use Rattle.format.proofs.Entries.{by_entry}
 use Rattle.format.proofs.HeaderJudged.{known_same, known_fault, taken_header}
 use Rattle.format.proofs.HeaderSound.{taken_sound}
@@ -46,11 +43,14 @@ use Rattle.laws.proofs.FrameDecides.{tables_decide}
 use Rattle.laws.proofs.KindGone.{moves_judge_cowd}
 use Rattle.laws.proofs.Unused.{unused_free, entry_same}
 use Rattle.laws.proofs.UsedCollapse.{below_same, if_same}
+use Rattle.std.specs.Prelude.{Result, Ok, Err}
+use Rattle.format.specs.declared.Refusal.{Refusal}
+use Rattle.format.specs.AnswerParts.{accepted_as}
 
 -- a directory that runs past the file is told whatever stands in it
 directory_past_lem : (s : List ℕ) (k : CowdFields) → file_sectors s < (cowd_header k).directory
     + (cowd_header k).directory_sectors
-    → check_layout s (cowd_header k) ≡ Refused (Misplaced Directory)
+    → check_layout s (cowd_header k) ≡ Err (Misplaced Directory)
 unfolding check_layout misplaced lowest_misplaced cowd_header pick
 directory_past_lem s k l = rw (le-ltb (file_sectors s) 0 (omega arith), lt-ltb _ _ l, or-true)
 
@@ -95,7 +95,7 @@ module _ (s t : List ℕ) (both : SameCowd s t) where
   cowd_decides_header = moves_judge_cowd s both.file ∙ rw fields_same (sym (moves_judge_cowd t other))
 
   -- ---- the check, where the header is known
-  module _ (h : Header) (known : judge_of Either s ≡ Known h) where
+  module _ (h : Header) (known : judge_of Either s ≡ Ok h) where
     is_cowd_lem : h ≡ cowd_header_of s
     is_cowd_lem = sym (known_same _ h (known_fault _ _ h (sym (moves_judge_cowd s both.file) ∙ known)).1)
 
@@ -129,16 +129,16 @@ module _ (s t : List ℕ) (both : SameCowd s t) where
         let p = places_kept s h found.places in
         entry_same s t h sound.sizes.low sound.some (in_use (primary_in s h p)) p g l
 
-  check_from_lem : (a : HeaderAnswer) → judge_of Either s ≡ a → check_from s a ≡ check_from t a
+  check_from_lem : (a : Result Header Refusal) → judge_of Either s ≡ a → check_from s a ≡ check_from t a
   unfolding check_from
-  check_from_lem (unknown r) e = refl
-  check_from_lem (Known h) e = layout_same h e
+  check_from_lem (Err r) e = refl
+  check_from_lem (Ok h) e = layout_same h e
 
   pub cowd_decides_check : check_of Either s ≡ check_of Either t
   cowd_decides_check = check_from_lem (judge_of Either s) refl ∙ ap (check_from t) cowd_decides_header
 
   -- ---- what is written, where the check accepts
-  module _ (c size : ℕ) (accepted : check_of Either s ≡ Accepted c size) where
+  module _ (c size : ℕ) (accepted : check_of Either s ≡ accepted_as c size) where
     pub cowd_header_accepted : header_of s ≡ header_of t
     cowd_header_accepted = let k = header_passed s (judge_of Either s) c size accepted in header_same k.0 k.1
 

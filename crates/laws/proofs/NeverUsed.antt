@@ -18,9 +18,6 @@ use Rattle.format.specs.Way.{lookup_steps}
 use Rattle.format.specs.Chain.{chain_lookup}
 use Rattle.format.specs.declared.Header.{Header}
 use Rattle.format.specs.declared.Source.{Source}
-use Rattle.format.specs.declared.HeaderAnswer.{HeaderAnswer}
-use Rattle.format.specs.declared.HeaderAnswer.TheVariants.{Known, Refused as unknown}
-use Rattle.format.specs.declared.LookupAnswer.{LookupAnswer}
 use Rattle.format.specs.Judged.{Sound}
 use Rattle.format.proofs.HeaderSound.{sound_of}
 use Rattle.base.specs.Bytes.{SameBytes}
@@ -33,6 +30,8 @@ use Rattle.laws.proofs.UsedAnswers.{used_check, used_lookup, used_frame, used_li
 use Rattle.laws.proofs.UsedSteps.{used_steps}
 use Rattle.laws.proofs.UsedCheckIn.{used_check_in, used_lent}
 use Rattle.laws.proofs.UsedChain.{used_chain}
+use Rattle.std.specs.Prelude.{Result, Ok, Err}
+use Rattle.format.specs.declared.Refusal.{Refusal}
 
 module _ (s t : List ℕ) (both : SameSectors s t) where
   pub below : (at n : ℕ) → at + n ≤ 512 * file_sectors s → SameBytes s t at n
@@ -120,16 +119,16 @@ module _ (s t : List ℕ) (both : SameSectors s t) where
   never_used_row = used_row s t never_used
 
   -- ---- the bytes that are read
-  abbrev SameServed : LookupAnswer → LookupAnswer → Type 0
+  abbrev SameServed : Result Source Refusal → Result Source Refusal → Type 0
   SameServed = SameAnswer (λ a. source_bytes s a ≡ source_bytes t a)
 
-  from_served : (a : HeaderAnswer) → judge s ≡ a → (x : ℕ) → SameServed (lookup_from s x a) (lookup_from t x a)
+  from_served : (a : Result Header Refusal) → judge s ≡ a → (x : ℕ) → SameServed (lookup_from s x a) (lookup_from t x a)
   unfolding lookup_from
-  from_served (unknown r) e x = refused
-  from_served (Known h) e x =
+  from_served (Err r) e x = refused
+  from_served (Ok h) e x =
       let sound = sound_of s h e in unused_lookup s t h sound (in_use h sound) _ (sources_same h sound) x
 
-  bytes_same : {a b : LookupAnswer} → SameServed a b → answer_bytes s a ≡ answer_bytes t b
+  bytes_same : {a b : Result Source Refusal} → SameServed a b → answer_bytes s a ≡ answer_bytes t b
   unfolding answer_bytes source_bytes
   bytes_same refused = refl
   bytes_same (found e) = e

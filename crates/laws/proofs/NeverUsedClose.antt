@@ -21,17 +21,17 @@ use Rattle.format.specs.Tail.{tail_bytes}
 use Rattle.format.specs.Close.{tail_of, close_from, close_judged, close, tail_written, close_output}
 use Rattle.format.specs.declared.Header.{Header}
 use Rattle.format.specs.declared.KdmvFields.{KdmvFields}
-use Rattle.format.specs.declared.HeaderAnswer.{HeaderAnswer}
-use Rattle.format.specs.declared.HeaderAnswer.TheVariants.{Known, Refused as unknown}
 use Rattle.format.specs.declared.closing.Block.{Block}
 use Rattle.format.specs.declared.closing.Block.TheVariants.{Stop, Other, Grain}
-use Rattle.format.specs.declared.closing.CloseAnswer.{CloseAnswer}
 use Rattle.format.proofs.Entries.{sectors_same}
 use Rattle.format.proofs.SameHeader.{string, kdmv_same, judge_cowd_same}
 use Rattle.format.proofs.BytesAt.{part_alike}
 use Rattle.laws.specs.NeverUsed.{SameSectors}
 use Rattle.laws.proofs.NeverUsed.{below, same_head}
 use Rattle.laws.proofs.ClosedTwice.{tail_alike}
+use Rattle.std.specs.Prelude.{Result, Ok, Err}
+use Rattle.format.specs.declared.Refusal.{Refusal}
+use Rattle.format.specs.declared.closing.Kept.{Kept}
 
 -- after one block
 on_same : (b : Block) (p next : ℕ) (f g : ℕ → ℕ → List KeptGrain) → ((q m : ℕ) → f q m ≡ g q m)
@@ -114,15 +114,15 @@ module _ (s t : List ℕ) (both : SameSectors s t) where
         (part_alike s t 0 56 (omega arith) (omega arith) (below s t both 0 56 (omega arith)))
         (part_alike s t 64 448 (omega arith) (omega arith) (below s t both 64 448 (omega arith))) h _ _
 
-  closed_same : (room : ℕ) (a : HeaderAnswer) → close_judged s room a ≡ close_judged t room a
+  closed_same : (room : ℕ) (a : Result Header Refusal) → close_judged s room a ≡ close_judged t room a
   unfolding close_judged
-  closed_same room (unknown r) = refl
-  closed_same room (Known h) = from_same h room
+  closed_same room (Err r) = refl
+  closed_same room (Ok h) = from_same h room
 
   pub never_used_close : (room : ℕ) → close s room ≡ close t room
   never_used_close room = ap (close_judged s room) judged_same ∙ closed_same room (judge_start t)
 
   pub never_used_tail : (out : List ℕ) → close_output s out ≡ close_output t out
   never_used_tail out =
-      ap (λ (a : CloseAnswer). tail_written a (tail_of s (start_of s)) out) (never_used_close (length out))
+      ap (λ (a : Result Kept Refusal). tail_written a (tail_of s (start_of s)) out) (never_used_close (length out))
       ∙ ap (λ (v : List ℕ). tail_written (close t (length out)) v out) (ap (tail_of s) start_same ∙ tail_same (start_of t))

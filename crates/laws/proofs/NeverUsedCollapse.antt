@@ -17,8 +17,6 @@ use Rattle.format.specs.Collapse.{map_of, collapsed, normal}
 use Rattle.format.specs.Collapse.{collapse, output, normal_output, collapse_output}
 use Rattle.format.specs.declared.Entry.{Entry}
 use Rattle.format.specs.declared.Entry.TheVariants.{Absent, Zero, Sector}
-use Rattle.format.specs.declared.CollapseAnswer.{CollapseAnswer}
-use Rattle.format.specs.declared.CollapseAnswer.TheVariants.{Written, Refused}
 use Rattle.format.proofs.Inside.{named_in}
 use Rattle.format.proofs.Grains.{clip_same}
 use Rattle.format.proofs.LowestGrain.{none_lowest}
@@ -34,6 +32,8 @@ use Rattle.laws.proofs.CollapsedAnswer.{collapse_layers}
 use Rattle.laws.proofs.CollapsedSelf.{collapse_self_output}
 use Rattle.laws.proofs.UsedCollapse.{entries_same, layer_header, used_collapse, used_normal}
 use Rattle.laws.proofs.NeverUsed.{never_used, never_used_check}
+use Rattle.std.specs.Prelude.{Result, Ok, Err}
+use Rattle.format.specs.declared.Refusal.{Refusal}
 
 -- ---- a layer's map
 module _ (s t : List ℕ) (both : SameSectors s t) where
@@ -68,11 +68,11 @@ module _ (s t : List ℕ) (both : SameSectors s t) where
         (grain_same h.capacity h.grain_size g (grain_entry s h g) (rw (unpacked p) at inside))
 
 -- ---- what an answer leaves open
-output_same : (a : CollapseAnswer) (image other out : List ℕ) → ((long : ℕ) → a ≡ Written long → image ≡ other)
+output_same : (a : Result ℕ Refusal) (image other out : List ℕ) → ((long : ℕ) → a ≡ Ok long → image ≡ other)
     → output a image out ≡ output a other out
 unfolding output
-output_same (Written long) image other out f = rw (f long refl)
-output_same (Refused r) image other out f = refl
+output_same (Ok long) image other out f = rw (f long refl)
+output_same (Err r) image other out f = refl
 
 -- ---- collapse: s and t are the lower images, u and v the upper ones
 module _ (s t u v : List ℕ) (low : SameSectors s t) (up : SameSectors u v) where

@@ -18,8 +18,6 @@ use Rattle.format.specs.Profile.{first_difference, profile_sizes_broken, profile
 use Rattle.format.specs.declared.Header.{Header}
 use Rattle.format.specs.declared.Kind.TheVariants.{Kdmv}
 use Rattle.format.specs.declared.Refusal.TheVariants.{NotNormal}
-use Rattle.format.specs.declared.CheckAnswer.{CheckAnswer}
-use Rattle.format.specs.declared.CheckAnswer.TheVariants.{Accepted, Refused}
 use Rattle.laws.specs.Layers.{Layer}
 use Rattle.laws.specs.NeverUsed.{SameSectors}
 use Rattle.laws.specs.ProfileImages.{DifferAt, byte, first_ends, second_ends, FirstAt, LatePlace}
@@ -31,12 +29,15 @@ use Rattle.laws.proofs.CollapsedMaps.{layout_same}
 use Rattle.laws.proofs.CollapsedImages.{normal_is, normal_length}
 use Rattle.laws.proofs.ProfilePlace.{place_first, place_only}
 use Rattle.laws.proofs.ProfileMet.{accepted_profile, place_profile, own_sizes}
+use Rattle.std.specs.Prelude.{Result, Ok, Err}
+use Rattle.format.specs.declared.Shape.{Shape}
+use Rattle.format.specs.declared.Refusal.{Refusal}
 
 -- the rules before the form
 abbrev early_broken : Header → Bool
 early_broken h = not_collapsible h || (still_open h || profile_sizes_broken h)
 
-early_answer : (x y z : Bool) (a b d v w : CheckAnswer) → (x || (y || z)) ≡ true
+early_answer : (x y z : Bool) (a b d v w : Result Shape Refusal) → (x || (y || z)) ≡ true
     → pick x a (pick y b (pick z d v)) ≡ pick x a (pick y b (pick z d w))
 unfolding pick
 early_answer true y z a b d v w e = refl
@@ -83,16 +84,16 @@ module _ (s t : List ℕ) (both : SameSectors s t) where
     first_other =
         place_first t (normal_form s) (λ e. uneven (layer_same s t both p) (rw (← both.long) part) (e ∙ form_same))
 
-    own_place : profile s ≡ Refused (NotNormal (first_difference s (normal_form s)))
+    own_place : profile s ≡ Err (NotNormal (first_difference s (normal_form s)))
     own_place = place_profile p m _ first_own
 
-    other_place : profile t ≡ Refused (NotNormal (first_difference t (normal_form s)))
+    other_place : profile t ≡ Err (NotNormal (first_difference t (normal_form s)))
     other_place =
         place_profile (layer_same s t both p) m _
         (subst (λ (form : List ℕ). FirstAt t form (first_difference t (normal_form s))) form_same first_other)
 
     one_place : first_difference s (normal_form s) ≡ first_difference t (normal_form s) → profile s ≡ profile t
-    one_place e = own_place ∙ ap (λ (n : ℕ). Refused (NotNormal n)) e ∙ sym other_place
+    one_place e = own_place ∙ ap (λ (n : ℕ). Err (NotNormal n)) e ∙ sym other_place
 
     places : (profile s ≡ profile t) ⊎ ((LatePlace s) × (LatePlace t))
     places =
@@ -104,23 +105,24 @@ module _ (s t : List ℕ) (both : SameSectors s t) where
         (lt_or_ge _ (512 * file_sectors s))
 
   -- ---- by the check's answer
-  checked : (a : CheckAnswer) → check s ≡ a → 0 < length s % 512 → (profile s ≡ profile t) ⊎ ((LatePlace s) × (LatePlace t))
+  checked : (a : Result Shape Refusal) → check s ≡ a → 0 < length s % 512
+      → (profile s ≡ profile t) ⊎ ((LatePlace s) × (LatePlace t))
   unfolding profile_from
-  checked (Refused r) e part = inl (profile_handed s r e ∙ sym (profile_handed t r (sym (never_used_check s t both) ∙ e)))
-  checked (Accepted c size) e part =
-      let h = header_accepted s t (never_used s t both) c size e in
+  checked (Err r) e part = inl (profile_handed s r e ∙ sym (profile_handed t r (sym (never_used_check s t both) ∙ e)))
+  checked (Ok sizes) e part =
+      let h = header_accepted s t (never_used s t both) sizes.capacity sizes.grain_size e in
       let f = sym (never_used_check s t both) ∙ e in
       ⊎_elim
       (λ b.
       inl
-      (accepted_profile s c size e
+      (accepted_profile s sizes.capacity sizes.grain_size e
       ∙ early_answer _ _ _ _ _ _ _ _ b
       ∙ ap (λ (k : Header). profile_from k t (normal_form t)) h
-      ∙ sym (accepted_profile t c size f)))
+      ∙ sym (accepted_profile t sizes.capacity sizes.grain_size f)))
       (λ b.
       let n = or_no (not_collapsible (header_of s)) _ b in
       let o = or_no (still_open (header_of s)) _ n.1 in
-      let p = own_sizes s c size e n.0 o.0 o.1 in
+      let p = own_sizes s sizes.capacity sizes.grain_size e n.0 o.0 o.1 in
       places p.0 p.1 part)
       (true_or_false (early_broken (header_of s)))
 

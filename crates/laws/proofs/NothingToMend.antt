@@ -21,9 +21,6 @@ use Rattle.format.specs.declared.Side.{Side}
 use Rattle.format.specs.declared.Side.TheVariants.{Primary, Redundant}
 use Rattle.format.specs.declared.Entry.{Entry}
 use Rattle.format.specs.declared.Entry.TheVariants.{Sector}
-use Rattle.format.specs.declared.HeaderAnswer.TheVariants.{Known}
-use Rattle.format.specs.declared.CheckAnswer.TheVariants.{Accepted}
-use Rattle.format.specs.declared.MendAnswer.TheVariants.{Mended}
 use Rattle.format.proofs.Areas.{meet_apart, apart_meet}
 use Rattle.format.proofs.Entries.{no_some}
 use Rattle.format.proofs.FromGood.{redundant_area_lem}
@@ -37,6 +34,8 @@ use Rattle.format.proofs.Picked.{pick_else}
 use Rattle.format.proofs.Places.{places_kept, redundant_tables_lem}
 use Rattle.laws.proofs.AcceptedCopies.{SameCopies, copies_kept}
 use Rattle.laws.proofs.MendedList.{none_listed}
+use Rattle.std.specs.Prelude.{Ok}
+use Rattle.format.specs.AnswerParts.{accepted_as}
 
 -- ---- two entries that say the same
 same_back : {s : List ℕ} {n : ℕ} {a b : Entry} → SameEntry s n a b → SameEntry s n b a
@@ -85,7 +84,7 @@ module _ (s : List ℕ) (h : Header) (two : h.redundant ≡ 0 → ⊥) (some : h
   copies_from Primary same n d l = same n d l
   copies_from Redundant same n d l = same_back (same two d l)
 
-module _ (s : List ℕ) (h : Header) (c size : ℕ) (judged : judge s ≡ Known h) (p : Passed s h c size)
+module _ (s : List ℕ) (h : Header) (c size : ℕ) (judged : judge s ≡ Ok h) (p : Passed s h c size)
     (two : h.redundant ≡ 0 → ⊥) (side : Side) where
   abbrev g : Header
   g = from_good side h
@@ -114,8 +113,8 @@ module _ (s : List ℕ) (h : Header) (c size : ℕ) (judged : judge s ≡ Known 
   kinds : (d : ℕ) → d < directory_entries_of g → kinds_differ (good_entry s g d) (other_entry s g d) ≡ false
   kinds d l = same_kind (same_from d l)
 
-  module _ (e : check s ≡ Accepted c size) where
-    accepted : check (mended s g) ≡ Accepted h.capacity h.grain_size
+  module _ (e : check s ≡ accepted_as c size) where
+    accepted : check (mended s g) ≡ accepted_as h.capacity h.grain_size
     accepted =
         unbroken_accepted s g sided (mended s g) apart
         (mended_changed s g (sided_placed s g sided) (sided_two s g sided) apart) kinds
@@ -134,13 +133,14 @@ module _ (s : List ℕ) (h : Header) (c size : ℕ) (judged : judge s ≡ Known 
     mendable =
         rw (no_some _ (directory_entries_of g) kinds, apart_meet (areas_kept_apart s g) apart, accepted)
 
-    nothing : (room : ℕ) → mend s side room ≡ Mended 0
+    nothing : (room : ℕ) → mend s side room ≡ Ok 0
     unfolding mend_from mend_good mended_if_room pick
     nothing room =
         rw (judged, p.places, ne_eqb h.redundant 0 two, mendable, none) (pick_else _ _ _ (le-ltb room 0 (omega arith)))
 
-pub nothing_to_mend : (s : List ℕ) (c size : ℕ) → check s ≡ Accepted c size → ((header_of s).redundant ≡ 0 → ⊥) → (side : Side)
-    (room : ℕ) → mend s side room ≡ Mended 0
+pub nothing_to_mend : (s : List ℕ) (c size : ℕ) → check s ≡ accepted_as c size → ((header_of s).redundant ≡ 0 → ⊥)
+    → (side : Side)
+    (room : ℕ) → mend s side room ≡ Ok 0
 nothing_to_mend s c size e two side room =
     let known = header_passed s (judge s) c size e in
     nothing s known.0 c size known.1 (layout_passed s known.0 c size known.2)

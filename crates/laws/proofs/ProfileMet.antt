@@ -19,8 +19,6 @@ use Rattle.format.specs.Profile.{profile}
 use Rattle.format.specs.Answers.{number}
 use Rattle.format.specs.declared.Refusal.{Refusal}
 use Rattle.format.specs.declared.Refusal.TheVariants.{NotCollapsible, StillOpen, NotNormal, ProfileSizes}
-use Rattle.format.specs.declared.CheckAnswer.{CheckAnswer}
-use Rattle.format.specs.declared.CheckAnswer.TheVariants.{Accepted, Refused}
 use Rattle.format.proofs.Picked.{pick_then, pick_else, passed}
 use Rattle.format.proofs.Passed.{accepted_past}
 use Rattle.laws.specs.Layers.{Layer}
@@ -32,6 +30,10 @@ use Rattle.laws.proofs.CollapsedLayers.{layer_accepted, capacity_is, size_is, un
 use Rattle.laws.proofs.CollapsedAnswer.{own_layer}
 use Rattle.laws.proofs.ProfilePlace.{same_file_lem, file_same, other_file, place_first, first_differs, place_only}
 use Rattle.laws.proofs.ProfilePlace.{longer_first, start_first}
+use Rattle.std.specs.Prelude.{Result, Ok, Err}
+use Rattle.format.specs.declared.Shape.{Shape}
+use Rattle.format.specs.AnswerParts.{accepted_as}
+use Rattle.format.proofs.SameParts.{same_sizes}
 
 -- ---- a layer of the two sizes that is its own normal form
 kept_equal : (n m : ℕ) → not (eqb n m) ≡ false → n ≡ m
@@ -62,7 +64,7 @@ sizes_kept : (s : List ℕ) → (header_of s).grain_size ≡ 128 → (header_of 
     → profile_sizes_broken (header_of s) ≡ false
 sizes_kept s e m = rw (e, m)
 
-pub accepted_profile : (s : List ℕ) (c size : ℕ) → check s ≡ Accepted c size
+pub accepted_profile : (s : List ℕ) (c size : ℕ) → check s ≡ accepted_as c size
     → profile s ≡ profile_from (header_of s) s (normal_form s)
 unfolding profile_if_accepted
 accepted_profile s c size e = rw e
@@ -76,24 +78,24 @@ layer_profile {c} {s} p m =
     ∙ pick_else _ _ _ (sizes_kept s (size_is p) (rw (capacity_is p) m))
 
 -- an image that meets the profile is accepted, with its capacity and 128
-pub meets_profile : {s : List ℕ} → Meets s → profile s ≡ Accepted (header_of s).capacity 128
+pub meets_profile : {s : List ℕ} → Meets s → profile s ≡ accepted_as (header_of s).capacity 128
 unfolding profile_form
 meets_profile {s} p =
     layer_profile (meets_layer p) p.capacity ∙ pick_then _ _ _ (file_same s (normal_form s) p.form) ∙ rw p.grain_size
 
 -- the others are refused 42, with the first place where they differ from their normal form
 pub place_profile : {c : ℕ} {s : List ℕ} → Layer c 128 s → c % 128 ≡ 0 → (n : ℕ) → FirstAt s (normal_form s) n
-    → profile s ≡ Refused (NotNormal n)
+    → profile s ≡ Err (NotNormal n)
 unfolding profile_form
 place_profile {s = s} p m n f =
     let differ = first_differs f in
     layer_profile p m
     ∙ pick_else _ _ _ (other_file s (normal_form s) differ)
-    ∙ ap (λ (k : ℕ). Refused (NotNormal k)) (place_only (place_first s (normal_form s) differ) f)
+    ∙ ap (λ (k : ℕ). Err (NotNormal k)) (place_only (place_first s (normal_form s) differ) f)
 
 -- bytes past the normal form's length, however few
 pub longer_place : {c : ℕ} {s : List ℕ} → Layer c 128 s → c % 128 ≡ 0 → (tail : List ℕ) → s ≡ normal_form s ++ tail
-    → 1 ≤ length tail → profile s ≡ Refused (NotNormal (length (normal_form s)))
+    → 1 ≤ length tail → profile s ≡ Err (NotNormal (length (normal_form s)))
 longer_place {s = s} p m tail e some =
     place_profile p m (length (normal_form s))
     (subst (λ (a : List ℕ). FirstAt a (normal_form s) (length (normal_form s))) (sym e)
@@ -101,26 +103,26 @@ longer_place {s = s} p m tail e some =
 
 -- an image that is a start of its normal form
 pub start_place : {c : ℕ} {s : List ℕ} → Layer c 128 s → c % 128 ≡ 0 → (tail : List ℕ) → normal_form s ≡ s ++ tail
-    → 1 ≤ length tail → profile s ≡ Refused (NotNormal (length s))
+    → 1 ≤ length tail → profile s ≡ Err (NotNormal (length s))
 start_place {s = s} p m tail e some =
     place_profile p m (length s) (subst (λ (a : List ℕ). FirstAt s a (length s)) (sym e) (start_first s tail some))
 
 -- ---- what a profile tells
 -- an answer that no check gives came from the profile's own rules
-was_checked : (a b : CheckAnswer) (c size : ℕ) → profile_if_accepted a b ≡ Accepted c size
-    → (k : ℕ) × (g : ℕ) × (a ≡ Accepted k g) × (b ≡ Accepted c size)
+was_checked : (a b : Result Shape Refusal) (c size : ℕ) → profile_if_accepted a b ≡ accepted_as c size
+    → (k : ℕ) × (g : ℕ) × (a ≡ accepted_as k g) × (b ≡ accepted_as c size)
 unfolding profile_if_accepted
-was_checked (Refused r) b c size e = let z : ◌≡◌ {A = ℕ} 0 1 = cc in absurd (omega arith)
-was_checked (Accepted k g) b c size e = (k, g, refl, e)
+was_checked (Err r) b c size e = let z : ◌≡◌ {A = ℕ} 0 1 = cc in absurd (omega arith)
+was_checked (Ok sizes) b c size e = (sizes.capacity, sizes.grain_size, refl, e)
 
-same_form : (b : Bool) (r : Refusal) (k g c size : ℕ) → pick b (Accepted k g) (Refused r) ≡ Accepted c size
+same_form : (b : Bool) (r : Refusal) (k g c size : ℕ) → pick b (accepted_as k g) (Err r) ≡ accepted_as c size
     → (b ≡ true) × (c ≡ k) × (size ≡ g)
 unfolding pick
-same_form true r k g c size q = (refl, cc, cc)
+same_form true r k g c size q = let same = same_sizes k g c size q in (refl, sym same.0, sym same.1)
 same_form false r k g c size q = let z : ◌≡◌ {A = ℕ} 0 1 = cc in absurd (omega arith)
 
 -- what the rules before the form have found
-pub own_sizes : (s : List ℕ) (c size : ℕ) → check s ≡ Accepted c size → not_collapsible (header_of s) ≡ false
+pub own_sizes : (s : List ℕ) (c size : ℕ) → check s ≡ accepted_as c size → not_collapsible (header_of s) ≡ false
     → still_open (header_of s) ≡ false → profile_sizes_broken (header_of s) ≡ false
     → (Layer (header_of s).capacity 128 s) × ((header_of s).capacity % 128 ≡ 0)
 own_sizes s c size e n o z =
@@ -130,7 +132,7 @@ own_sizes s c size e n o z =
     )
 
 -- an image that the profile accepts meets it
-pub profile_meets : (s : List ℕ) (c size : ℕ) → profile s ≡ Accepted c size
+pub profile_meets : (s : List ℕ) (c size : ℕ) → profile s ≡ accepted_as c size
     → (Meets s) × (c ≡ (header_of s).capacity) × (size ≡ 128)
 unfolding profile_from profile_form
 profile_meets s c size e =
@@ -144,22 +146,22 @@ profile_meets s c size e =
 
 -- ---- refusals of the profile's own
 -- a number that no check gives
-pub own_refusal : (s : List ℕ) (a b : CheckAnswer) (t : Refusal) → 13 ≤ number t → (number t ≡ 43 → ⊥) → check s ≡ a
-    → profile_if_accepted a b ≡ Refused t → (SomeAccepted s) × (b ≡ Refused t)
+pub own_refusal : (s : List ℕ) (a b : Result Shape Refusal) (t : Refusal) → 13 ≤ number t → (number t ≡ 43 → ⊥) → check s ≡ a
+    → profile_if_accepted a b ≡ Err t → (SomeAccepted s) × (b ≡ Err t)
 unfolding profile_if_accepted
-own_refusal s (Refused r) b t late gone k e =
+own_refusal s (Err r) b t late gone k e =
     let q : r ≡ t = cc in
     absurd (⊎_elim (λ l. let z : number t ≤ 12 = rw q at l in omega arith) (λ l. gone (rw q at l)) (check_refuses s r k))
-own_refusal s (Accepted c size) b t late gone k e = ((c, size, k), e)
+own_refusal s (Ok sizes) b t late gone k e = ((sizes.capacity, sizes.grain_size, k), e)
 
 -- a rule of another number was kept
-pub rule_past : (b : Bool) (r : Refusal) (y : CheckAnswer) (t : Refusal) → (number r ≡ number t → ⊥)
-    → pick b (Refused r) y ≡ Refused t → (b ≡ false) × (y ≡ Refused t)
+pub rule_past : (b : Bool) (r : Refusal) (y : Result Shape Refusal) (t : Refusal) → (number r ≡ number t → ⊥)
+    → pick b (Err r) y ≡ Err t → (b ≡ false) × (y ≡ Err t)
 rule_past b r y t other e =
-    passed b (Refused r) y (Refused t) (λ q. let z : r ≡ t = cc in other (ap number z)) e
+    passed b (Err r) y (Err t) (λ q. let z : r ≡ t = cc in other (ap number z)) e
 
 -- ---- 42
-other_form : (b : Bool) (k g m n : ℕ) → pick b (Accepted k g) (Refused (NotNormal m)) ≡ Refused (NotNormal n)
+other_form : (b : Bool) (k g m n : ℕ) → pick b (accepted_as k g) (Err (NotNormal m)) ≡ Err (NotNormal n)
     → (b ≡ false) × (m ≡ n)
 unfolding pick
 other_form true k g m n q = let z : ◌≡◌ {A = ℕ} 0 1 = cc in absurd (omega arith)
@@ -167,7 +169,7 @@ other_form false k g m n q = (refl, cc)
 
 -- 42 is given only where all but the form is as it should be, and its place is the first where the image and its normal form
 -- differ
-pub profile_place : (s : List ℕ) (n : ℕ) → profile s ≡ Refused (NotNormal n)
+pub profile_place : (s : List ℕ) (n : ℕ) → profile s ≡ Err (NotNormal n)
     → (Layer (header_of s).capacity 128 s) × ((header_of s).capacity % 128 ≡ 0) × (FirstAt s (normal_form s) n)
 unfolding profile_from profile_form
 profile_place s m e =

@@ -15,24 +15,25 @@ use Rattle.format.specs.Answers.{number}
 use Rattle.format.specs.declared.Header.{Header}
 use Rattle.format.specs.declared.Refusal.{Refusal}
 use Rattle.format.specs.declared.Refusal.TheVariants.{NotCollapsible, StillOpen, NotNormal, ProfileSizes}
-use Rattle.format.specs.declared.CheckAnswer.{CheckAnswer}
-use Rattle.format.specs.declared.CheckAnswer.TheVariants.{Accepted, Refused}
 use Rattle.format.proofs.Picked.{pick_then, pick_else, passed}
 use Rattle.laws.specs.StillOpen.{SomeAccepted, OpenImage}
 use Rattle.laws.proofs.ProfileMet.{accepted_profile, own_refusal, rule_past}
+use Rattle.std.specs.Prelude.{Result, Err}
+use Rattle.format.specs.declared.Shape.{Shape}
+use Rattle.format.specs.AnswerParts.{accepted_as}
 
 -- ---- the rule that a refusal names
 -- nothing after it gives its number, so it is broken
-named_broken : (b : Bool) (r : Refusal) (y : CheckAnswer) → (y ≡ Refused r → ⊥) → pick b (Refused r) y ≡ Refused r → b ≡ true
+named_broken : (b : Bool) (r : Refusal) (y : Result Shape Refusal) → (y ≡ Err r → ⊥) → pick b (Err r) y ≡ Err r → b ≡ true
 unfolding pick
 named_broken true r y never e = refl
 named_broken false r y never e = absurd (never e)
 
 -- the form after all three gives 42 alone
-form_never : (h : Header) (image form : List ℕ) (r : Refusal) → (42 ≡ number r → ⊥) → profile_form h image form ≡ Refused r → ⊥
+form_never : (h : Header) (image form : List ℕ) (r : Refusal) → (42 ≡ number r → ⊥) → profile_form h image form ≡ Err r → ⊥
 unfolding profile_form
 form_never h image form r other e =
-    let differ = passed (same_file image form) (Accepted h.capacity h.grain_size) _ (Refused r)
+    let differ = passed (same_file image form) (accepted_as h.capacity h.grain_size) _ (Err r)
     (λ q. let z : ◌≡◌ {A = ℕ} 0 1 = cc in omega arith) e in
     let same = differ.1 in
     let is : NotNormal (first_difference image form) ≡ r = cc in
@@ -40,11 +41,11 @@ form_never h image form r other e =
 
 module _ (s : List ℕ) where
   -- ---- 23
-  pub packed_profile : SomeAccepted s → not_collapsible (header_of s) ≡ true → profile s ≡ Refused NotCollapsible
+  pub packed_profile : SomeAccepted s → not_collapsible (header_of s) ≡ true → profile s ≡ Err NotCollapsible
   unfolding profile_from
   packed_profile a n = accepted_profile s a.0 a.1 a.2 ∙ pick_then _ _ _ n
 
-  pub profile_packed : profile s ≡ Refused NotCollapsible → (SomeAccepted s) × (not_collapsible (header_of s) ≡ true)
+  pub profile_packed : profile s ≡ Err NotCollapsible → (SomeAccepted s) × (not_collapsible (header_of s) ≡ true)
   unfolding profile_from
   profile_packed e =
       let a = own_refusal s (check s) _ NotCollapsible (lit≤ tt) (λ q. omega arith) refl e in (
@@ -58,13 +59,13 @@ module _ (s : List ℕ) where
       )
 
   -- ---- 27: of the same images as normal form gives it
-  pub open_profile : OpenImage s → profile s ≡ Refused StillOpen
+  pub open_profile : OpenImage s → profile s ≡ Err StillOpen
   unfolding profile_from
   open_profile p =
       let a = p.checked in
       accepted_profile s a.0 a.1 a.2 ∙ pick_else _ _ _ p.collapsible ∙ pick_then _ _ _ p.dirty
 
-  pub profile_open : profile s ≡ Refused StillOpen → OpenImage s
+  pub profile_open : profile s ≡ Err StillOpen → OpenImage s
   unfolding profile_from
   profile_open e =
       let a = own_refusal s (check s) _ StillOpen (lit≤ tt) (λ q. omega arith) refl e in
@@ -82,12 +83,12 @@ module _ (s : List ℕ) where
 
   -- ---- 47
   pub sizes_profile : SomeAccepted s → not_collapsible (header_of s) ≡ false → still_open (header_of s) ≡ false
-      → profile_sizes_broken (header_of s) ≡ true → profile s ≡ Refused ProfileSizes
+      → profile_sizes_broken (header_of s) ≡ true → profile s ≡ Err ProfileSizes
   unfolding profile_from
   sizes_profile a n o z =
       accepted_profile s a.0 a.1 a.2 ∙ pick_else _ _ _ n ∙ pick_else _ _ _ o ∙ pick_then _ _ _ z
 
-  pub profile_sizes : profile s ≡ Refused ProfileSizes
+  pub profile_sizes : profile s ≡ Err ProfileSizes
       → (SomeAccepted s) × (not_collapsible (header_of s) ≡ false) × (still_open (header_of s) ≡ false)
       × (profile_sizes_broken (header_of s) ≡ true)
   unfolding profile_from

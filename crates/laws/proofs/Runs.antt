@@ -12,8 +12,6 @@ use Rattle.format.specs.Source.{sector_lookup}
 use Rattle.format.specs.Chain.{chain_lookup}
 use Rattle.format.specs.Collapse.{written_if_room}
 use Rattle.format.specs.declared.Refusal.TheVariants.{SectorPast}
-use Rattle.format.specs.declared.LookupAnswer.TheVariants.{Refused}
-use Rattle.format.specs.declared.ChainAnswer.TheVariants.{Refused as RefusedIn}
 use Rattle.format.proofs.Grains.{stored_same}
 use Rattle.format.proofs.Picked.{pick_else}
 use Rattle.laws.specs.Layers.{Layer, Every, none as no_more, more, end_to_end, lengths_of, map_of_layers, Pairing, layer}
@@ -24,6 +22,9 @@ use Rattle.laws.proofs.CollapsedImages.{collapsed_accepted, collapsed_map, colla
 use Rattle.laws.proofs.CollapsedPairings.{front, back, some_layer, pairing_accepted, pairing_map, pairings_alike}
 use Rattle.laws.proofs.CollapsedServed.{pairing_serves, pairing_past}
 use Rattle.laws.proofs.CollapsedAnswer.{layers_collapse, collapse_layers, collapse_output_lem}
+use Rattle.std.specs.Prelude.{Err}
+use Rattle.format.specs.AnswerParts.{refused_at}
+use Rattle.format.proofs.SameParts.{same_sizes}
 
 -- the image of a run is the one that its pairing has
 pub run_is : {t : Pairing} {o : Outputs t} {image : List ℕ} → Run t o image → image ≡ paired_image t
@@ -34,7 +35,7 @@ run_is (collapsing {lower = lower} {upper = upper} r k out long w) =
 
 -- ---- the layers of a run: collapse refuses all others
 sizes_same : {c size d other : ℕ} {s : List ℕ} → Layer c size s → Layer d other s → (c ≡ d) × (size ≡ other)
-sizes_same p q = (cc, cc)
+sizes_same {c} {size} {d} {other} p q = same_sizes c size d other (sym p.accepted ∙ q.accepted)
 
 together : {P : List ℕ → Type 0} (l k : List (List ℕ)) → Every P l → Every P k → Every P (l ++ k)
 together [] k no_more f = f
@@ -120,6 +121,6 @@ module _ {c size : ℕ} {t : Pairing} {o : Outputs t} {image : List ℕ} (r : Ru
     pub run_serves : x < c → ServedAs image (end_to_end (layers_of t)) (lengths_of (layers_of t)) x
     run_serves low = rw (run_is r) (pairing_serves t e few x low)
 
-    pub run_past : c ≤ x → (sector_lookup image x ≡ Refused SectorPast)
-        × (chain_lookup (end_to_end (layers_of t)) (lengths_of (layers_of t)) x ≡ RefusedIn 0 SectorPast)
+    pub run_past : c ≤ x → (sector_lookup image x ≡ Err SectorPast)
+        × (chain_lookup (end_to_end (layers_of t)) (lengths_of (layers_of t)) x ≡ refused_at 0 SectorPast)
     run_past past = rw (run_is r) (pairing_past t e few x past)

@@ -21,16 +21,16 @@ use Rattle.format.specs.Answers.{located, chained}
 use Rattle.format.specs.declared.Header.{Header}
 use Rattle.format.specs.declared.Source.TheVariants.{Absent, Zero, Stored, Packed}
 use Rattle.format.specs.declared.Refusal.TheVariants.{SectorPast}
-use Rattle.format.specs.declared.HeaderAnswer.{HeaderAnswer}
-use Rattle.format.specs.declared.HeaderAnswer.TheVariants.{Known, Refused as unknown}
-use Rattle.format.specs.declared.LookupAnswer.{LookupAnswer}
-use Rattle.format.specs.declared.LookupAnswer.TheVariants.{Found as found_in, Refused as refused_in}
-use Rattle.format.specs.declared.ChainAnswer.{ChainAnswer}
-use Rattle.format.specs.declared.ChainAnswer.TheVariants.{Found, Refused}
 use Rattle.format.proofs.Picked.{pick_then, pick_else}
 use Rattle.format.proofs.HeaderJudged.{judged_header}
 use Rattle.format.proofs.LayersAt.{like}
 use Rattle.laws.proofs.ServedLookup.{past_in}
+use Rattle.std.specs.Prelude.{Result, Ok, Err}
+use Rattle.format.specs.declared.Source.{Source}
+use Rattle.format.specs.declared.LayerSource.{LayerSource}
+use Rattle.format.specs.declared.LayerRefusal.{LayerRefusal}
+use Rattle.format.specs.declared.Refusal.{Refusal}
+use Rattle.format.specs.AnswerParts.{refused_at}
 
 -- the one layer is the whole slice
 one_layer : (s : List ℕ) → layer_at s (length s ∷ []) 0 ≡ s
@@ -48,36 +48,36 @@ unfolding any_below
 one_alike s = like _ _ refl refl
 
 -- an answer of the lookup, and the absent one under it
-one_told : (a : LookupAnswer) → chained (unless_absent 0 a (Found (record { layer = 0; source = Absent }))) ≡ located a
+one_told : (a : Result Source Refusal) → chained (unless_absent 0 a (Ok (record { layer = 0; source = Absent }))) ≡ located a
 unfolding unless_absent
-one_told (found_in Absent) = refl
-one_told (found_in Zero) = refl
-one_told (found_in (Stored sector)) = refl
-one_told (found_in (Packed marker size o)) = refl
-one_told (refused_in r) = refl
+one_told (Ok Absent) = refl
+one_told (Ok Zero) = refl
+one_told (Ok (Stored sector)) = refl
+one_told (Ok (Packed marker size o)) = refl
+one_told (Err r) = refl
 
 module _ (s : List ℕ) (x : ℕ) where
-  past_told : (h : Header) → judge s ≡ Known h → (below : ChainAnswer) → below
-      ≡ unless_absent 0 (sector_lookup s x) (Found (record { layer = 0; source = Absent }))
-      → chained (pick (leb (header_of s).capacity x) (Refused 0 SectorPast) below) ≡ located (lookup_in s h x)
+  past_told : (h : Header) → judge s ≡ Ok h → (below : Result LayerSource LayerRefusal) → below
+      ≡ unless_absent 0 (sector_lookup s x) (Ok (record { layer = 0; source = Absent }))
+      → chained (pick (leb (header_of s).capacity x) (refused_at 0 SectorPast) below) ≡ located (lookup_in s h x)
   unfolding lookup_from
   past_told h e below is =
       let q : leb (header_of s).capacity x ≡ leb h.capacity x = rw (judged_header s h e) in
       ⊎_elim
       (λ t. ap chained (pick_then _ _ _ (q ∙ t)) ∙ sym (ap located (past_in s h x (leb-true _ _ t))))
       (λ f. ap chained (pick_else _ _ _ (q ∙ f) ∙ is) ∙ one_told (sector_lookup s x)
-      ∙ ap (λ (a : HeaderAnswer). located (lookup_from s x a)) e)
+      ∙ ap (λ (a : Result Header Refusal). located (lookup_from s x a)) e)
       (true_or_false (leb h.capacity x))
 
-  walked : (h : Header) → judge s ≡ Known h → chained (walk s (length s ∷ []) x) ≡ located (lookup_from s x (Known h))
+  walked : (h : Header) → judge s ≡ Ok h → chained (walk s (length s ∷ []) x) ≡ located (lookup_from s x (Ok h))
   unfolding walk walk_down lookup_from
   walked h e = ap chained (pick_else _ _ _ (one_alike s)) ∙ rw (one_layer s) (past_told h e _ refl)
 
-  one_judged : (a : HeaderAnswer) → judge s ≡ a → chained (if_known 0 a (walk s (length s ∷ []) x)) ≡ located
+  one_judged : (a : Result Header Refusal) → judge s ≡ a → chained (if_known 0 a (walk s (length s ∷ []) x)) ≡ located
       (lookup_from s x a)
   unfolding if_known lookup_from
-  one_judged (unknown r) e = refl
-  one_judged (Known h) e = walked h e
+  one_judged (Err r) e = refl
+  one_judged (Ok h) e = walked h e
 
   -- a chain of one layer is answered as its lookup is, and names layer 0
   pub chain_of_one : chained (chain_lookup s (length s ∷ []) x) ≡ located (sector_lookup s x)

@@ -14,15 +14,15 @@ use Rattle.format.specs.declared.Header.{Header}
 use Rattle.format.specs.declared.Entry.{Entry}
 use Rattle.format.specs.declared.Entry.TheVariants.{Absent, Zero, Sector}
 use Rattle.format.specs.declared.Refusal.TheVariants.{SectorPast}
-use Rattle.format.specs.declared.LookupAnswer.TheVariants.{Found, Refused}
 use Rattle.format.proofs.Geometry.{grain_of_lem, entry_used}
 use Rattle.format.proofs.Picked.{pick_then, pick_else, no_and}
 use Rattle.format.proofs.Inside.{in_each, rows_in, named_in, Inside, groups_in}
 use Rattle.format.proofs.Places.{kept_directory}
 use Rattle.laws.proofs.AcceptedMarkers.{kept_marker}
+use Rattle.std.specs.Prelude.{Ok, Err}
 
 -- 20: sector at or past the end
-pub past_in : (s : List ℕ) (h : Header) (x : ℕ) → h.capacity ≤ x → lookup_in s h x ≡ Refused SectorPast
+pub past_in : (s : List ℕ) (h : Header) (x : ℕ) → h.capacity ≤ x → lookup_in s h x ≡ Err SectorPast
 unfolding lookup_in
 past_in s h x l = pick_then _ _ _ (le-leb h.capacity x l)
 
@@ -30,7 +30,7 @@ past_in s h x l = pick_then _ _ _ (le-leb h.capacity x l)
 module _ (s : List ℕ) (h : Header) (g o : ℕ) where
   grain_served : (e : ℕ) → runs_past (file_sectors s) (named (grain_sectors s h.packed h.grain_size) (Sector e)) ≡ false
       → (h.packed ≡ true → marker_broken s h.grain_size g e ≡ false) → lookup_grain s h g o e
-      ≡ Found (grain_source s h.packed o e)
+      ≡ Ok (grain_source s h.packed o e)
   unfolding lookup_grain
   grain_served e p m =
       pick_else _ _ _ (le-ltb (file_sectors s) (e + grain_sectors s h.packed h.grain_size e)
@@ -39,7 +39,7 @@ module _ (s : List ℕ) (h : Header) (g o : ℕ) where
 
   entry_served : (d : Entry) → runs_past (file_sectors s) (named (grain_sectors s h.packed h.grain_size) d) ≡ false
       → ((e : ℕ) → d ≡ Sector e → h.packed ≡ true → marker_broken s h.grain_size g e ≡ false) → lookup_entry s h g o d
-      ≡ Found (entry_source s h.packed o d)
+      ≡ Ok (entry_source s h.packed o d)
   unfolding lookup_entry entry_source
   entry_served Absent p m = refl
   entry_served Zero p m = refl
@@ -50,7 +50,7 @@ module _ (s : List ℕ) (h : Header) (g o : ℕ) where
       (in_table s h.one_is_zero (g % h.entries_per_table) d)) ≡ false
       → ((e : ℕ) → in_table s h.one_is_zero (g % h.entries_per_table) d ≡ Sector e → h.packed ≡ true
       → marker_broken s h.grain_size g e ≡ false)
-      → lookup_table s h g o d ≡ Found (entry_source s h.packed o
+      → lookup_table s h g o d ≡ Ok (entry_source s h.packed o
       (in_table s h.one_is_zero (g % h.entries_per_table) d))
   unfolding lookup_table in_table entry_source
   table_served Absent t p m = refl
@@ -84,7 +84,7 @@ module _ (s : List ℕ) (h : Header) (one : 1 ≤ h.grain_size) (per : 1 ≤ h.e
         kept_marker s h.grain_size (x / h.grain_size) e (r.markers p (x / h.grain_size) e grain_used q)
 
     -- the source that the grain's entry gives
-    pub found_in : lookup_in s h x ≡ Found (source_of s h x)
+    pub found_in : lookup_in s h x ≡ Ok (source_of s h x)
     unfolding lookup_in entry_of_grain
     found_in =
         pick_else _ _ _ (lt-leb h.capacity x low)

@@ -12,21 +12,20 @@ use Rattle.format.specs.declared.Taken.TheVariants.{Either}
 use Rattle.format.specs.declared.Header.{Header}
 use Rattle.format.specs.declared.Source.TheVariants.{Stored}
 use Rattle.format.specs.declared.Refusal.TheVariants.{SectorPast}
-use Rattle.format.specs.declared.HeaderAnswer.TheVariants.{Known}
-use Rattle.format.specs.declared.LookupAnswer.TheVariants.{Found, Refused}
 use Rattle.format.proofs.HeaderJudged.{taken_kdmv, kdmv_known, cowd_known, kdmv_is, cowd_is}
 use Rattle.format.specs.Judged.{Sound}
 use Rattle.format.proofs.HeaderSound.{taken_sound, sound_of}
 use Rattle.laws.proofs.ServedLookup.{past_in, found_in}
 use Rattle.laws.proofs.ServedBytes.{source_length, source_long}
+use Rattle.std.specs.Prelude.{Ok, Err}
 
 -- ---- what an accepted image has
 pub record Good (s : List ℕ) (h : Header) : Type 0 where
-  pub known : judge s ≡ Known h
+  pub known : judge s ≡ Ok h
   pub sound : Sound h
   pub areas : AreaRules s h
 
-good_of : (s : List ℕ) (h : Header) → judge s ≡ Known h → AreaRules s h → Good s h
+good_of : (s : List ℕ) (h : Header) → judge s ≡ Ok h → AreaRules s h → Good s h
 good_of s h e a = record { known = e; sound = sound_of s h e; areas = a }
 
 pub accepted_good : (s : List ℕ) → AcceptedKdmv s → Good s (header_of s)
@@ -38,13 +37,13 @@ either_good s (kdmv r a) = rw (kdmv_is s r) (taken_sound s Either _ (taken_kdmv 
 either_good s (cowd r a) = rw (cowd_is s r) (taken_sound s Either _ (cowd_known s r), a)
 
 -- a sector at or past the end is refused 20
-pub past_end : (s : List ℕ) → AcceptedKdmv s → (x : ℕ) → (header_of s).capacity ≤ x → sector_lookup s x ≡ Refused SectorPast
+pub past_end : (s : List ℕ) → AcceptedKdmv s → (x : ℕ) → (header_of s).capacity ≤ x → sector_lookup s x ≡ Err SectorPast
 unfolding lookup_from
 past_end s a x l = rw (accepted_good s a).known (past_in s (header_of s) x l)
 
 module _ (s : List ℕ) (a : AcceptedKdmv s) (x : ℕ) (low : x < (header_of s).capacity) where
   -- no sector below capacity is refused, and the lookup finds the source that its entry gives
-  pub served : sector_lookup s x ≡ Found (source_of s (header_of s) x)
+  pub served : sector_lookup s x ≡ Ok (source_of s (header_of s) x)
   unfolding lookup_from
   served =
       let g = accepted_good s a in

@@ -14,25 +14,27 @@ use Rattle.format.specs.declared.Refusal.TheVariants.{KindGone}
 use Rattle.format.specs.declared.LayerSource.{LayerSource}
 use Rattle.format.proofs.Picked.{pick_then, pick_else, passed}
 use Rattle.disk.specs.Split.{in_plain, in_image, by_type, in_extent}
-use Rattle.disk.specs.declared.SplitAnswer.{SplitAnswer}
-use Rattle.disk.specs.declared.SplitAnswer.TheVariants.{Found, Image}
 use Rattle.laws.proofs.SplitServed.{to_type, found_allowed, image_back, image_answer}
+use Rattle.std.specs.Prelude.{Result, Ok}
+use Rattle.disk.specs.declared.SplitRefusal.{SplitRefusal}
+use Rattle.disk.specs.declared.SplitRefusal.TheVariants.{Image}
+use Rattle.std.specs.Prelude.{Err}
 
-pub record Served (answer : SplitAnswer) : Type 0 where
+pub record Served (answer : Result LayerSource SplitRefusal) : Type 0 where
   pub at : LayerSource
-  pub found : answer ≡ Found at
+  pub found : answer ≡ Ok at
 
 -- sector o is served; p is another of the line's sectors
 module _ (s : List ℕ) (e : Extent) (i o p : ℕ) (low : p < e.sectors) (a : LayerSource)
-    (found : in_extent s e i o ≡ Found a) where
+    (found : in_extent s e i o ≡ Ok a) where
   -- the same answer, but for the sector
-  plain_too : in_plain s e i o ≡ Found a → Served (in_plain s e i p)
+  plain_too : in_plain s e i o ≡ Ok a → Served (in_plain s e i p)
   unfolding in_plain
   plain_too q =
-      let f = passed _ _ _ (Found a) (λ q. let z : ◌≡◌ {A = ℕ} 0 1 = cc in omega arith) q in
+      let f = passed _ _ _ (Ok a) (λ q. let z : ◌≡◌ {A = ℕ} 0 1 = cc in omega arith) q in
       record { at = _; found = pick_else _ _ _ f.0 }
 
-  image_too : in_image s e i o ≡ Found a → Served (in_image s e i p)
+  image_too : in_image s e i o ≡ Ok a → Served (in_image s e i p)
   unfolding in_image
   image_too q =
       let f = image_back s e i o a found q in
@@ -44,10 +46,10 @@ module _ (s : List ℕ) (e : Extent) (i o p : ℕ) (low : p < e.sectors) (a : La
       }
 
   -- by way of what it is here
-  through : {answer other : SplitAnswer} → answer ≡ other → Served other → Served answer
+  through : {answer other : Result LayerSource SplitRefusal} → answer ≡ other → Served other → Served answer
   through q k = record { at = k.at; found = q ∙ k.found }
 
-  type_too : by_type s e i o ≡ Found a → Served (by_type s e i p)
+  type_too : by_type s e i o ≡ Ok a → Served (by_type s e i p)
   unfolding by_type
   type_too q =
       ⊎_elim
@@ -60,7 +62,7 @@ module _ (s : List ℕ) (e : Extent) (i o p : ℕ) (low : p < e.sectors) (a : La
       (λ k. through (pick_else _ _ _ z ∙ pick_else _ _ _ t ∙ pick_then _ _ _ k)
       (image_too (sym (pick_else _ _ _ z ∙ pick_else _ _ _ t ∙ pick_then _ _ _ k) ∙ q)))
       (λ k.
-      let gone : Image i KindGone ≡ Found a = sym (pick_else _ _ _ z ∙ pick_else _ _ _ t ∙ pick_else _ _ _ k) ∙ q in
+      let gone : Err (Image i KindGone) ≡ Ok a = sym (pick_else _ _ _ z ∙ pick_else _ _ _ t ∙ pick_else _ _ _ k) ∙ q in
       let y : ◌≡◌ {A = ℕ} 0 1 = cc in
       absurd (omega arith))
       (true_or_false (eqb e.kind SPARSE)))

@@ -15,8 +15,10 @@ use Rattle.base.specs.Strings.{same_at}
 use Rattle.base.proofs.Steps.{true_or_false}
 use Rattle.descriptor.specs.Extents.{NOACCESS, FLAT, VMFS, SPARSE, VMFSSPARSE, ZERO}
 use Rattle.descriptor.specs.Descriptor.{no_extent, read_text}
-use Rattle.descriptor.specs.Records.{parsed, found_at, not_found, find_answer}
+use Rattle.descriptor.specs.Records.{found_at, not_found, find_answer}
 use Rattle.descriptor.specs.declared.Extent.{Extent}
+use Rattle.std.specs.Prelude.{Ok}
+use Rattle.descriptor.specs.declared.Parsed.{Parsed}
 use Rattle.descriptor.specs.declared.State.{State}
 use Rattle.format.specs.Geometry.{file_sectors, bytes_at}
 use Rattle.format.specs.Kdmv.{kdmv_magic}
@@ -28,43 +30,34 @@ use Rattle.format.specs.Chain.{layer_at}
 use Rattle.format.specs.declared.Refusal.TheVariants.{KindGone}
 use Rattle.format.specs.declared.Source.TheVariants.{Zero, Stored}
 use Rattle.format.specs.declared.LayerSource.{LayerSource}
-use Rattle.format.specs.declared.CheckAnswer.{CheckAnswer}
-use Rattle.format.specs.declared.CheckAnswer.TheVariants.{Accepted as accepted, Refused as check_refused}
-use Rattle.format.specs.declared.LookupAnswer.{LookupAnswer}
-use Rattle.format.specs.declared.LookupAnswer.TheVariants.{Found as found_in, Refused as lookup_refused}
 use Rattle.format.proofs.Picked.{pick_then, pick_else, passed}
 use Rattle.disk.specs.Split.{source_in, in_zero, in_plain, looked_up, in_accepted, in_image, by_type, in_extent}
 use Rattle.disk.specs.Split.{split_lengths_broken, extents_of, at_extent, split_from, split}
-use Rattle.disk.specs.declared.SplitAnswer.TheVariants.{Found, SectorPast, OtherFile, Image}
 use Rattle.laws.proofs.ExtentsLaid.{sectors_of, Holder, Laid, laid_sum, none_past, Met, meets}
-use Rattle.laws.proofs.ExtentsRead.{text_read, few_extents}
-use Rattle.laws.proofs.ExtentsHeld.{Told, told_of}
+use Rattle.laws.proofs.ExtentsRead.{Read, text_read}
 use Rattle.laws.proofs.AcceptedImage.{accepted_sound}
 use Rattle.laws.proofs.ServedSectors.{served}
+use Rattle.std.specs.Prelude.{Result, Ok, Err}
+use Rattle.format.specs.declared.Shape.{Shape}
+use Rattle.format.specs.declared.Source.{Source}
+use Rattle.format.specs.declared.Refusal.{Refusal}
+use Rattle.format.specs.AnswerParts.{accepted_as}
+use Rattle.disk.specs.declared.SplitRefusal.TheVariants.{SectorPast, OtherFile, Image}
 
 -- ---- the extents of a text that is not refused
-module _ (text : List ℕ) (ok : (parsed text).answer.number ≡ 0) where
+module _ (text : List ℕ) (p : Parsed) (ok : read_text text ≡ Ok p) where
   abbrev extents : List Extent
-  extents = extents_of (parsed text)
+  extents = extents_of p
 
-  abbrev st : State
-  st = read_text text
+  read : Read p
+  read = text_read text p ok
 
-  told : Told st
-  told = told_of st ok
-
-  laid : Laid 0 extents st.sum
-  laid =
-      let few = few_extents st ((text_read text).good told.none) in
-      let es : extents ≡ take st.extents st.records = rw told.same in
-      subst (λ (l : List Extent). Laid 0 l st.sum) (sym es) ((text_read text).known.laid few)
-
-  sum_is : sectors_of extents ≡ st.sum
-  sum_is = sym (zero-add _) ∙ laid_sum 0 st.sum extents laid
+  sum_is : sectors_of extents ≡ read.sum
+  sum_is = sym (zero-add _) ∙ laid_sum 0 read.sum extents read.laid
 
   module _ (x : ℕ) where
     met : x < sectors_of extents → Met extents x
-    met h = meets 0 st.sum extents x laid (omega arith) (subst (λ (n : ℕ). x < n) sum_is h)
+    met h = meets 0 read.sum extents x read.laid (omega arith) (subst (λ (n : ℕ). x < n) sum_is h)
 
     -- each sector below the sum has exactly one extent
     pub one_extent : x < sectors_of extents → Holder extents x
@@ -76,7 +69,7 @@ module _ (text : List ℕ) (ok : (parsed text).answer.number ≡ 0) where
         ap (λ (es : List Extent). find_answer es x) (sym (append-nil extents)) ∙ (met h).found [] 0 ∙ ap found_at (zero-add _)
 
     -- ---- where 24 is not given
-    module _ (files lengths : List ℕ) (whole : split_lengths_broken (parsed text).count files lengths ≡ false) where
+    module _ (files lengths : List ℕ) (whole : split_lengths_broken p.count files lengths ≡ false) where
       -- the answer is that of its own extent
       pub split_answer : (h : x < sectors_of extents) → split text files lengths x
           ≡ in_extent (layer_at files lengths (one_extent h).number) (get_or extents (one_extent h).number no_extent)
@@ -85,22 +78,22 @@ module _ (text : List ℕ) (ok : (parsed text).answer.number ≡ 0) where
       split_answer h = rw (ok, whole, found_one h)
 
       -- a sector past the last extent is refused 20
-      pub split_past : sectors_of extents ≤ x → split text files lengths x ≡ SectorPast
+      pub split_past : sectors_of extents ≤ x → split text files lengths x ≡ Err SectorPast
       unfolding split_from at_extent pick
       split_past h =
           let none : find_answer extents x ≡ not_found =
-          none_past 0 st.sum extents x 0 laid (subst (λ (n : ℕ). n ≤ x) sum_is h) in
+          none_past 0 read.sum extents x 0 read.laid (subst (λ (n : ℕ). n ≤ x) sum_is h) in
           rw (ok, whole, none)
 
 -- ---- nothing but the sector's own file is judged
-pub own_file_alone : (text : List ℕ) (ok : (parsed text).answer.number ≡ 0) (x : ℕ)
-    (h : x < sectors_of (extents_of (parsed text))) (files lengths others theirs : List ℕ)
-    → split_lengths_broken (parsed text).count files lengths ≡ false
-    → split_lengths_broken (parsed text).count others theirs ≡ false
-    → layer_at files lengths (one_extent text ok x h).number ≡ layer_at others theirs (one_extent text ok x h).number
+pub own_file_alone : (text : List ℕ) (p : Parsed) (ok : read_text text ≡ Ok p) (x : ℕ)
+    (h : x < sectors_of (extents_of p)) (files lengths others theirs : List ℕ)
+    → split_lengths_broken p.count files lengths ≡ false
+    → split_lengths_broken p.count others theirs ≡ false
+    → layer_at files lengths (one_extent text p ok x h).number ≡ layer_at others theirs (one_extent text p ok x h).number
     → split text files lengths x ≡ split text others theirs x
-own_file_alone text ok x h files lengths others theirs a b same =
-    rw (split_answer text ok x files lengths a h, split_answer text ok x others theirs b h, same)
+own_file_alone text p ok x h files lengths others theirs a b same =
+    rw (split_answer text p ok x files lengths a h, split_answer text p ok x others theirs b h, same)
 
 -- ---- the source of each type, sector o of extent i in the file s
 module _ (s : List ℕ) (e : Extent) (i o : ℕ) (allowed : e.access ≡ NOACCESS → ⊥) where
@@ -129,8 +122,8 @@ module _ (s : List ℕ) (e : Extent) (i o : ℕ) (allowed : e.access ≡ NOACCES
     vmfs_served k = by_type_lem ∙ rw (k, le-ltb (file_sectors s) (e.offset + e.sectors) inside)
 
   -- an image: accepted, of its own kind, with the line's capacity. Then it is the lookup's answer on the file alone
-  module _ (size : ℕ) (passed : check s ≡ accepted e.sectors size) (low : o < e.sectors) where
-    sound : sector_lookup s o ≡ found_in (source_of s (header_of s) o)
+  module _ (size : ℕ) (passed : check s ≡ accepted_as e.sectors size) (low : o < e.sectors) where
+    sound : sector_lookup s o ≡ Ok (source_of s (header_of s) o)
     sound =
         let a = accepted_sound s e.sectors size passed in
         served s a.0 o (subst (λ (n : ℕ). o < n) a.1 low)
@@ -141,7 +134,7 @@ module _ (s : List ℕ) (e : Extent) (i o : ℕ) (allowed : e.access ≡ NOACCES
 
     pub sparse_served : e.kind ≡ SPARSE → same_at s 0 cowd_magic ≡ false
         → (in_extent s e i o ≡ source_in i (source_of s (header_of s) o))
-        × (sector_lookup s o ≡ found_in (source_of s (header_of s) o))
+        × (sector_lookup s o ≡ Ok (source_of s (header_of s) o))
     unfolding by_type in_image
     sparse_served k m = (
       by_type_lem ∙ pick_else _ _ _ (is k ZERO) ∙ pick_else _ _ _ (plain_is k) ∙ pick_then _ _ _ (is k SPARSE)
@@ -150,23 +143,23 @@ module _ (s : List ℕ) (e : Extent) (i o : ℕ) (allowed : e.access ≡ NOACCES
     )
 
   -- COWD's magic under SPARSE is 45, before the image's own numbers
-  pub sparse_other : e.kind ≡ SPARSE → same_at s 0 cowd_magic ≡ true → in_extent s e i o ≡ OtherFile i
+  pub sparse_other : e.kind ≡ SPARSE → same_at s 0 cowd_magic ≡ true → in_extent s e i o ≡ Err (OtherFile i)
   unfolding by_type in_image
   sparse_other k m =
       by_type_lem ∙ pick_else _ _ _ (is k ZERO) ∙ pick_else _ _ _ (plain_is k) ∙ pick_then _ _ _ (is k SPARSE)
       ∙ pick_then _ _ _ m
 
   -- VMFSSPARSE is 43 by the line alone, whatever its file holds
-  pub vmfssparse_gone : e.kind ≡ VMFSSPARSE → in_extent s e i o ≡ Image i KindGone
+  pub vmfssparse_gone : e.kind ≡ VMFSSPARSE → in_extent s e i o ≡ Err (Image i KindGone)
   unfolding by_type
   vmfssparse_gone k =
       by_type_lem ∙ pick_else _ _ _ (is k ZERO) ∙ pick_else _ _ _ (plain_is k) ∙ pick_else _ _ _ (is k SPARSE)
 
 -- ---- and back: what was found tells of the file
-module _ (s : List ℕ) (e : Extent) (i o : ℕ) (a : LayerSource) (found : in_extent s e i o ≡ Found a) where
-  pub to_type : (eqb e.access NOACCESS ≡ false) × (by_type s e i o ≡ Found a)
+module _ (s : List ℕ) (e : Extent) (i o : ℕ) (a : LayerSource) (found : in_extent s e i o ≡ Ok a) where
+  pub to_type : (eqb e.access NOACCESS ≡ false) × (by_type s e i o ≡ Ok a)
   unfolding in_extent
-  to_type = passed _ _ _ (Found a) (λ q. let z : ◌≡◌ {A = ℕ} 0 1 = cc in omega arith) found
+  to_type = passed _ _ _ (Ok a) (λ q. let z : ◌≡◌ {A = ℕ} 0 1 = cc in omega arith) found
 
   -- it is not NOACCESS
   pub found_allowed : e.access ≡ NOACCESS → ⊥
@@ -178,7 +171,7 @@ module _ (s : List ℕ) (e : Extent) (i o : ℕ) (a : LayerSource) (found : in_e
   unfolding by_type in_plain
   to_plain z p =
       let q = sym (pick_else _ _ _ z ∙ pick_then _ _ _ p) ∙ to_type.1 in
-      ltb-false _ _ (passed _ _ _ (Found a) (λ q. let z : ◌≡◌ {A = ℕ} 0 1 = cc in omega arith) q).0
+      ltb-false _ _ (passed _ _ _ (Ok a) (λ q. let z : ◌≡◌ {A = ℕ} 0 1 = cc in omega arith) q).0
 
   pub found_flat : e.kind ≡ FLAT → e.offset + e.sectors ≤ file_sectors s
   found_flat k = to_plain (ap (λ n. eqb n ZERO) k) (ap (λ n. eqb n FLAT || eqb n VMFS) k)
@@ -187,36 +180,36 @@ module _ (s : List ℕ) (e : Extent) (i o : ℕ) (a : LayerSource) (found : in_e
   found_vmfs k = to_plain (ap (λ n. eqb n ZERO) k) (ap (λ n. eqb n FLAT || eqb n VMFS) k)
 
 -- an image that serves a sector is accepted, has the line's capacity, and the source is its own lookup's
-looked_back : (i : ℕ) (looked : LookupAnswer) (a : LayerSource) → looked_up i looked ≡ Found a → looked ≡ found_in a.source
+looked_back : (i : ℕ) (looked : Result Source Refusal) (a : LayerSource) → looked_up i looked ≡ Ok a → looked ≡ Ok a.source
 unfolding looked_up
-looked_back i (found_in source) a q = let z : a ≡ record { layer = i; source = source } = cc in rw z
-looked_back i (lookup_refused r) a q = let z : ◌≡◌ {A = ℕ} 0 1 = cc in absurd (omega arith)
+looked_back i (Ok source) a q = let z : a ≡ record { layer = i; source = source } = cc in rw z
+looked_back i (Err r) a q = let z : ◌≡◌ {A = ℕ} 0 1 = cc in absurd (omega arith)
 
 pub record Serves (s : List ℕ) (e : Extent) (o : ℕ) (a : LayerSource) : Type 0 where
   pub size : ℕ
-  pub accepted : check s ≡ accepted e.sectors size
-  pub looked : sector_lookup s o ≡ found_in a.source
+  pub accepted : check s ≡ accepted_as e.sectors size
+  pub looked : sector_lookup s o ≡ Ok a.source
 
-accepted_back : (s : List ℕ) (e : Extent) (i o : ℕ) (j : CheckAnswer) (a : LayerSource) → check s ≡ j
-    → in_accepted s e i o j ≡ Found a → Serves s e o a
+accepted_back : (s : List ℕ) (e : Extent) (i o : ℕ) (j : Result Shape Refusal) (a : LayerSource) → check s ≡ j
+    → in_accepted s e i o j ≡ Ok a → Serves s e o a
 unfolding in_accepted
-accepted_back s e i o (check_refused r) a k q = let z : ◌≡◌ {A = ℕ} 0 1 = cc in absurd (omega arith)
-accepted_back s e i o (accepted c g) a k q =
+accepted_back s e i o (Err r) a k q = let z : ◌≡◌ {A = ℕ} 0 1 = cc in absurd (omega arith)
+accepted_back s e i o (Ok sizes) a k q =
     ⊎_elim
     (λ t. record {
-      size = g;
-      accepted = k ∙ ap (λ n. accepted n g) (eqb-true c e.sectors t);
+      size = sizes.grain_size;
+      accepted = k ∙ ap (λ n. accepted_as n sizes.grain_size) (eqb-true sizes.capacity e.sectors t);
       looked = looked_back i (sector_lookup s o) a (sym (pick_then _ _ _ t) ∙ q);
     })
     (λ f. let y = sym (pick_else _ _ _ f) ∙ q in let z : ◌≡◌ {A = ℕ} 0 1 = cc in absurd (omega arith))
-    (true_or_false (eqb c e.sectors))
+    (true_or_false (eqb sizes.capacity e.sectors))
 
 -- and it is a KDMV image
-module _ (s : List ℕ) (e : Extent) (i o : ℕ) (a : LayerSource) (found : in_extent s e i o ≡ Found a) where
-  pub image_back : in_image s e i o ≡ Found a → (same_at s 0 cowd_magic ≡ false) × (Serves s e o a)
+module _ (s : List ℕ) (e : Extent) (i o : ℕ) (a : LayerSource) (found : in_extent s e i o ≡ Ok a) where
+  pub image_back : in_image s e i o ≡ Ok a → (same_at s 0 cowd_magic ≡ false) × (Serves s e o a)
   unfolding in_image
   image_back q =
-      let p = passed _ _ _ (Found a) (λ q. let z : ◌≡◌ {A = ℕ} 0 1 = cc in omega arith) q in
+      let p = passed _ _ _ (Ok a) (λ q. let z : ◌≡◌ {A = ℕ} 0 1 = cc in omega arith) q in
       (p.0, accepted_back s e i o (check s) a refl p.1)
 
   pub found_sparse : e.kind ≡ SPARSE → (bytes_at s 0 4 ≡ kdmv_magic) × (Serves s e o a)

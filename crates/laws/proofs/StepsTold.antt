@@ -19,15 +19,15 @@ use Rattle.format.specs.Way.{no_way, to_grain, to_directory, to_table, way_table
 use Rattle.format.specs.declared.Header.{Header}
 use Rattle.format.specs.declared.Entry.{Entry}
 use Rattle.format.specs.declared.Entry.TheVariants.{Absent, Zero, Sector}
-use Rattle.format.specs.declared.HeaderAnswer.{HeaderAnswer}
-use Rattle.format.specs.declared.HeaderAnswer.TheVariants.{Known, Refused as unknown}
-use Rattle.format.specs.declared.LookupAnswer.{LookupAnswer}
 use Rattle.format.specs.declared.steps.Way.{Way}
 use Rattle.format.proofs.HeaderSound.{sound_of}
 use Rattle.format.proofs.Geometry.{grain_of_lem, entry_used}
 use Rattle.format.proofs.Places.{directory_in}
 use Rattle.laws.specs.Reached.{grain_at, in_directory, in_table_at, OfDisk, ToDirectory, ToTable, Reached, header, past}
 use Rattle.laws.specs.Reached.{directory, no_table, table, grain_past, marker, found, Stands, unreached, reached}
+use Rattle.std.specs.Prelude.{Result, Ok, Err}
+use Rattle.format.specs.declared.Source.{Source}
+use Rattle.format.specs.declared.Refusal.{Refusal}
 
 -- an entry that names no sector
 absent_no : {t : ℕ} → Absent ≡ Sector t → ⊥
@@ -85,7 +85,7 @@ module _ (s : List ℕ) (x : ℕ) where
         cond_all Ends _ _ _ (λ p. marker there q n p)
         (λ m. rw q at (found there (λ d p. let is = same_sector (sym q ∙ p) in (rw is at n, rw is at m)))))
       where
-        Ends : LookupAnswer → Type 0
+        Ends : Result Source Refusal → Type 0
         Ends a = Reached s x a (to_table s h g t)
 
     -- by the directory's entry
@@ -98,7 +98,7 @@ module _ (s : List ℕ) (x : ℕ) where
         pick_both (Reached s x) _ _ _ _ _ (λ p. table there q p)
         (λ n. by_entry t (record { before = there; named = q; placed = n }) _ refl)
 
-    known_reached : judge s ≡ Known h → Reached s x (lookup_in s h x) (way_in s h x)
+    known_reached : judge s ≡ Ok h → Reached s x (lookup_in s h x) (way_in s h x)
     unfolding lookup_in way_in to_directory
     known_reached known =
         pick_both (Reached s x) (leb h.capacity x) _ _ _ _ (λ p. past known (leb-true h.capacity x p))
@@ -107,10 +107,10 @@ module _ (s : List ℕ) (x : ℕ) where
         pick_both (Reached s x) (directory_misplaced (file_sectors s) h) _ _ _ _ (λ p. directory disk p)
         (λ m. by_directory (record { disk = disk; placed = m }) _ refl))
 
-  from : (a : HeaderAnswer) → judge s ≡ a → Reached s x (lookup_from s x a) (way_from s x a)
+  from : (a : Result Header Refusal) → judge s ≡ a → Reached s x (lookup_from s x a) (way_from s x a)
   unfolding lookup_from way_from
-  from (unknown r) e = header e
-  from (Known h) e = known_reached h e
+  from (Err r) e = header e
+  from (Ok h) e = known_reached h e
 
   pub steps_reached : Reached s x (sector_lookup s x) (way s x)
   steps_reached = from (judge s) refl
@@ -146,7 +146,7 @@ module _ (s : List ℕ) (x : ℕ) where
       let k = table_place h t there in
       (reached d.0 d.1, reached k.0 k.1)
 
-  stands : {a : LookupAnswer} {w : Way} → Reached s x a w
+  stands : {a : Result Source Refusal} {w : Way} → Reached s x a w
       → (Stands s w.directory_at w.directory_entry) × (Stands s w.table_at w.table_entry)
   unfolding no_way to_grain to_directory to_table
   stands (header e) = (unreached, unreached)

@@ -16,7 +16,6 @@ use Rattle.format.specs.Header.{kdmv_header, header_of}
 use Rattle.format.specs.Areas.{area, if_there, header_area, footer_area, holders}
 use Rattle.format.specs.Accepted.{FooterRules}
 use Rattle.format.specs.Check.{check}
-use Rattle.format.specs.declared.CheckAnswer.TheVariants.{Accepted as accepts}
 use Rattle.format.proofs.Areas.{holds_in}
 use Rattle.format.proofs.HeaderJudged.{judged_header}
 use Rattle.laws.specs.StillOpen.{SameButTwice}
@@ -27,6 +26,7 @@ use Rattle.laws.proofs.StillOpenHeader.{kdmv_with_lem}
 use Rattle.laws.proofs.StillOpenFooter.{spared, same_directory, same_broken}
 use Rattle.laws.proofs.StillOpenRead.{clear_used}
 use Rattle.laws.proofs.StillOpenApart.{clear_apart}
+use Rattle.format.specs.AnswerParts.{accepted_as}
 
 -- ---- KDMV with a footer: sector 0 and sector F-2
 abbrev Ends : List ℕ → ℕ → Type 0
@@ -40,7 +40,7 @@ ends_held s m e x (inr z) =
     rw (m, e) (omega (arith, holds_in (area (file_sectors s - 2) 1) x (omega arith) (omega arith)))
 
 module _ (s t : List ℕ) (both : SameButTwice s t) (magic : same_at s 0 kdmv_magic ≡ true) (end : at_end (kdmv_fields s) ≡ true)
-    (capacity grain_size : ℕ) (accepted : check s ≡ accepts capacity grain_size) where
+    (capacity grain_size : ℕ) (accepted : check s ≡ accepted_as capacity grain_size) where
   rules : FooterRules s
   rules = ((accepted_sound s capacity grain_size accepted).0.rules.at_end (eqb-true _ _ end)).1
 

@@ -11,9 +11,6 @@ use Rattle.format.specs.Source.{sector_lookup}
 use Rattle.format.specs.Chain.{layer_at, if_known, chain_lookup}
 use Rattle.format.specs.Frame.{frame, frame_list}
 use Rattle.format.specs.Survey.{row_of}
-use Rattle.format.specs.declared.HeaderAnswer.{HeaderAnswer}
-use Rattle.format.specs.declared.HeaderAnswer.TheVariants.{Known, Refused}
-use Rattle.format.specs.declared.ChainAnswer.{ChainAnswer}
 use Rattle.base.specs.Bytes.{SameBytes}
 use Rattle.laws.specs.StillOpen.{OtherNumber}
 use Rattle.laws.specs.StillOpen.OtherNumber.{kdmv, footer}
@@ -22,6 +19,11 @@ use Rattle.laws.proofs.UsedChain.{SameLayer, layers_chain}
 use Rattle.laws.proofs.StillOpenUsed.{answer_with, SameElse, else_check, else_lookup, else_frame, else_list, else_row}
 use Rattle.laws.proofs.StillOpenFront.{else_kdmv}
 use Rattle.laws.proofs.StillOpenAccepted.{else_footer}
+use Rattle.std.specs.Prelude.{Result, Ok, Err}
+use Rattle.format.specs.declared.Header.{Header}
+use Rattle.format.specs.declared.LayerSource.{LayerSource}
+use Rattle.format.specs.declared.LayerRefusal.{LayerRefusal}
+use Rattle.format.specs.declared.Refusal.{Refusal}
 
 else_of : (s t : List ℕ) → OtherNumber s t → SameElse s t
 else_of s t (kdmv both magic none) = else_kdmv s t both magic none
@@ -46,10 +48,11 @@ module _ (s t : List ℕ) (other : OtherNumber s t) where
   pub open_row : row_of s ≡ row_of t
   open_row = else_row s t (else_of s t other)
 
-  known_too : (n k : ℕ) (a : ChainAnswer) (h : HeaderAnswer) → if_known k h a ≡ if_known k (answer_with n h) a
+  known_too : (n k : ℕ) (a : Result LayerSource LayerRefusal) (h : Result Header Refusal) → if_known k h a
+      ≡ if_known k (answer_with n h) a
   unfolding if_known answer_with
-  known_too n k a (Refused r) = refl
-  known_too n k a (Known h) = refl
+  known_too n k a (Err r) = refl
+  known_too n k a (Ok h) = refl
 
   open_layer : SameLayer s t
   open_layer =

@@ -15,21 +15,21 @@ use Rattle.format.specs.Header.{kdmv_header, directory_of, kdmv_header_of, unles
 use Rattle.format.specs.Header.{judge_kdmv, judge_of, judge}
 use Rattle.format.specs.declared.KdmvFields.{KdmvFields}
 use Rattle.format.specs.declared.Header.{Header}
-use Rattle.format.specs.declared.Fault.{Fault}
-use Rattle.format.specs.declared.Fault.TheVariants.{None, Found}
-use Rattle.format.specs.declared.HeaderAnswer.{HeaderAnswer}
 use Rattle.base.specs.Bytes.{SameBytes}
 use Rattle.base.proofs.SameBytes.{within, number_same, string_same}
 use Rattle.laws.proofs.StillOpenUsed.{with_dirty, answer_with}
+use Rattle.std.specs.Prelude.{Result, Ok, Err}
+use Rattle.format.specs.declared.Refusal.{Refusal}
 
 -- ---- the steps of a judgement
-abbrev With : ℕ → HeaderAnswer → HeaderAnswer → Type 0
+abbrev With : ℕ → Result Header Refusal → Result Header Refusal → Type 0
 With n a b = a ≡ answer_with n b
 
-fault_with : (n : ℕ) (f : Fault) (a b : HeaderAnswer) → With n a b → With n (unless_fault f a) (unless_fault f b)
+fault_with : (n : ℕ) (f : Result (Unit {0}) Refusal) (a b : Result Header Refusal) → With n a b
+    → With n (unless_fault f a) (unless_fault f b)
 unfolding unless_fault answer_with
-fault_with n None a b e = e
-fault_with n (Found r) a b e = refl
+fault_with n (Ok tt) a b e = e
+fault_with n (Err r) a b e = refl
 
 -- ---- KDMV: sector 0 but for byte 72
 module _ (s t : List ℕ) (long : length s ≡ length t) (front : SameBytes s t 0 72) (back : SameBytes s t 73 6)

@@ -23,10 +23,6 @@ use Rattle.format.specs.declared.Header.{Header}
 use Rattle.format.specs.declared.Entry.{Entry}
 use Rattle.format.specs.declared.Entry.TheVariants.{Absent, Zero, Sector}
 use Rattle.format.specs.declared.MisplacedPart.TheVariants.{Descriptor, Directory}
-use Rattle.format.specs.declared.HeaderAnswer.{HeaderAnswer}
-use Rattle.format.specs.declared.HeaderAnswer.TheVariants.{Known, Refused}
-use Rattle.format.specs.declared.CheckAnswer.{CheckAnswer}
-use Rattle.format.specs.declared.CheckAnswer.TheVariants.{Accepted, Refused as unaccepted}
 use Rattle.format.proofs.Picked.{pick_then}
 use Rattle.format.proofs.HeaderJudged.{judged_header}
 use Rattle.format.proofs.HeaderSound.{sound_of}
@@ -36,6 +32,10 @@ use Rattle.laws.specs.Unused.{SameInUse}
 use Rattle.laws.proofs.Counts.{count_same}
 use Rattle.laws.proofs.Unused.{unused_free, misplaced_same, part_same, entry_same, frame_areas_same, frame_words_same}
 use Rattle.laws.proofs.UnusedLookup.{answer_same, unused_lookup}
+use Rattle.std.specs.Prelude.{Result, Ok, Err}
+use Rattle.format.specs.declared.Shape.{Shape}
+use Rattle.format.specs.declared.Refusal.{Refusal}
+use Rattle.format.specs.AnswerParts.{accepted_as}
 
 -- a header with another number
 unfoldable pub with_dirty : ℕ → Header → Header
@@ -58,9 +58,9 @@ with_dirty n h =
       dirty = n;
     }
 
-unfoldable pub answer_with : ℕ → HeaderAnswer → HeaderAnswer
-answer_with n (Refused r) = Refused r
-answer_with n (Known h) = Known (with_dirty n h)
+unfoldable pub answer_with : ℕ → Result Header Refusal → Result Header Refusal
+answer_with n (Err r) = Err r
+answer_with n (Ok h) = Ok (with_dirty n h)
 
 -- ---- nothing looks at it
 module _ (s : List ℕ) (n : ℕ) (h : Header) where
@@ -84,7 +84,7 @@ module _ (s : List ℕ) (n : ℕ) (h : Header) where
   unfolding with_dirty lookup_in
   lookup_blind x = rw table_blind
 
-  frame_blind : (room : ℕ) → frame_from s room (Known (with_dirty n h)) ≡ frame_from s room (Known h)
+  frame_blind : (room : ℕ) → frame_from s room (Ok (with_dirty n h)) ≡ frame_from s room (Ok h)
   unfolding with_dirty frame_from misplaced lowest_misplaced redundant_tables frame_areas
   frame_blind room = refl
 
@@ -92,10 +92,10 @@ module _ (s : List ℕ) (n : ℕ) (h : Header) where
   unfolding with_dirty frame_words redundant_tables
   words_blind = refl
 
-  row_blind : (a : CheckAnswer) → row_from s (with_dirty n h) a ≡ row_from s h a
+  row_blind : (a : Result Shape Refusal) → row_from s (with_dirty n h) a ≡ row_from s h a
   unfolding with_dirty row_from
-  row_blind (unaccepted r) = refl
-  row_blind (Accepted c size) = refl
+  row_blind (Err r) = refl
+  row_blind (Ok sizes) = refl
 
 -- ---- a directory at sector 0 is refused before it is read
 module _ (s : List ℕ) (h : Header) (zero : h.directory ≡ 0) where
@@ -115,10 +115,10 @@ pub record SameElse (s t : List ℕ) : Type 0 where
   pub long : length s ≡ length t
   pub number : ℕ
   pub judged : judge t ≡ answer_with number (judge s)
-  pub used : (h : Header) → judge s ≡ Known h → (h.directory ≡ 0 → ⊥) → SameInUse s t h
+  pub used : (h : Header) → judge s ≡ Ok h → (h.directory ≡ 0 → ⊥) → SameInUse s t h
 
 module _ (s t : List ℕ) (both : SameElse s t) where
-  module _ (h : Header) (e : judge s ≡ Known h) where
+  module _ (h : Header) (e : judge s ≡ Ok h) where
     by_directory : {A : Type 0} → (h.directory ≡ 0 → A) → (SameInUse s t h → A) → A
     by_directory none some =
         ⊎_elim (λ z. none (eqb-true h.directory 0 z)) (λ z. some (both.used h e (eqb-false h.directory 0 z)))
@@ -173,14 +173,14 @@ module _ (s t : List ℕ) (both : SameElse s t) where
           (λ g l.
           ap (entry_kind h.packed) (entry_same s t h sound.sizes.low sound.some used_kept (places_kept s h kept) g l))
 
-    frame_known : (room : ℕ) → frame_from s room (Known h) ≡ frame_from t room (Known h)
+    frame_known : (room : ℕ) → frame_from s room (Ok h) ≡ frame_from t room (Ok h)
     unfolding frame_from
     frame_known room =
         rw (← misplaced_known, ← part_known)
         (pick_both ◌≡◌ (misplaced s h) _ _ _ _ (λ q. refl) (λ kept. rw (areas_kept kept)))
 
-    list_known : (room : ℕ) (list : List ℕ) → list_after (frame_from s room (Known h)) (frame_words s h) list
-        ≡ list_after (frame_from t room (Known h)) (frame_words t h) list
+    list_known : (room : ℕ) (list : List ℕ) → list_after (frame_from s room (Ok h)) (frame_words s h) list
+        ≡ list_after (frame_from t room (Ok h)) (frame_words t h) list
     unfolding frame_from list_after
     list_known room list =
         rw (← misplaced_known)
@@ -188,44 +188,45 @@ module _ (s t : List ℕ) (both : SameElse s t) where
         (λ q. refl) (λ kept. rw (areas_kept kept, words_kept kept)))
 
     -- the second image's header
-    other_known : judge t ≡ Known (with_dirty both.number h)
+    other_known : judge t ≡ Ok (with_dirty both.number h)
     unfolding answer_with
     other_known = both.judged ∙ rw e
 
     other_header : header_of t ≡ with_dirty both.number h
     other_header = sym (judged_header t _ other_known)
 
-  check_from_lem : (a : HeaderAnswer) → judge s ≡ a → check_from s a ≡ check_from t (answer_with both.number a)
+  check_from_lem : (a : Result Header Refusal) → judge s ≡ a → check_from s a ≡ check_from t (answer_with both.number a)
   unfolding check_from answer_with
-  check_from_lem (Refused r) e = refl
-  check_from_lem (Known h) e = check_known h e ∙ sym (check_blind t both.number h)
+  check_from_lem (Err r) e = refl
+  check_from_lem (Ok h) e = check_known h e ∙ sym (check_blind t both.number h)
 
   pub else_check : check s ≡ check t
   else_check = rw both.judged (check_from_lem (judge s) refl)
 
-  lookup_from_lem : (x : ℕ) (a : HeaderAnswer) → judge s ≡ a → lookup_from s x a ≡ lookup_from t x (answer_with both.number a)
+  lookup_from_lem : (x : ℕ) (a : Result Header Refusal) → judge s ≡ a → lookup_from s x a
+      ≡ lookup_from t x (answer_with both.number a)
   unfolding lookup_from answer_with
-  lookup_from_lem x (Refused r) e = refl
-  lookup_from_lem x (Known h) e = lookup_known h e x ∙ sym (lookup_blind t both.number h x)
+  lookup_from_lem x (Err r) e = refl
+  lookup_from_lem x (Ok h) e = lookup_known h e x ∙ sym (lookup_blind t both.number h x)
 
   pub else_lookup : (x : ℕ) → sector_lookup s x ≡ sector_lookup t x
   else_lookup x = rw both.judged (lookup_from_lem x (judge s) refl)
 
-  frame_from_lem : (room : ℕ) (a : HeaderAnswer) → judge s ≡ a
+  frame_from_lem : (room : ℕ) (a : Result Header Refusal) → judge s ≡ a
       → frame_from s room a ≡ frame_from t room (answer_with both.number a)
   unfolding frame_from answer_with
-  frame_from_lem room (Refused r) e = refl
-  frame_from_lem room (Known h) e = frame_known h e room ∙ sym (frame_blind t both.number h room)
+  frame_from_lem room (Err r) e = refl
+  frame_from_lem room (Ok h) e = frame_known h e room ∙ sym (frame_blind t both.number h room)
 
   pub else_frame : (room : ℕ) → frame s room ≡ frame t room
   else_frame room = rw both.judged (frame_from_lem room (judge s) refl)
 
-  list_from : (room : ℕ) (list : List ℕ) (a : HeaderAnswer) → judge s ≡ a
+  list_from : (room : ℕ) (list : List ℕ) (a : Result Header Refusal) → judge s ≡ a
       → list_after (frame_from s room a) (frame_words s (header_of s)) list
       ≡ list_after (frame_from t room (answer_with both.number a)) (frame_words t (header_of t)) list
   unfolding frame_from list_after answer_with
-  list_from room list (Refused r) e = refl
-  list_from room list (Known h) e =
+  list_from room list (Err r) e = refl
+  list_from room list (Ok h) e =
       rw (
         ← judged_header s h e,
         other_header h e,
@@ -238,14 +239,18 @@ module _ (s t : List ℕ) (both : SameElse s t) where
   else_list list = rw both.judged (list_from (length list) list (judge s) refl)
 
   -- ---- the row: an accepted image's header is known, and nothing of it is misplaced
-  row_from_lem : (a : CheckAnswer) → check s ≡ a → row_from s (header_of s) a ≡ row_from t (header_of t) a
+  row_from_lem : (a : Result Shape Refusal) → check s ≡ a → row_from s (header_of s) a ≡ row_from t (header_of t) a
   unfolding row_from
-  row_from_lem (unaccepted r) e = refl
-  row_from_lem (Accepted c size) e =
-      let k = header_passed s (judge s) c size e in
+  row_from_lem (Err r) e = refl
+  row_from_lem (Ok sizes) e =
+      let k = header_passed s (judge s) sizes.capacity sizes.grain_size e in
       let known = k.1 in
-      let kinds = kinds_kept k.0 known (layout_passed s k.0 c size k.2).places in
-      rw (← judged_header s k.0 known, other_header k.0 known, row_blind t both.number k.0 (Accepted c size))
+      let kinds = kinds_kept k.0 known (layout_passed s k.0 sizes.capacity sizes.grain_size k.2).places in
+      rw (
+        ← judged_header s k.0 known,
+        other_header k.0 known,
+        row_blind t both.number k.0 (accepted_as sizes.capacity sizes.grain_size),
+      )
       (rw (kinds 2, kinds 1, kinds 0, kinds 3))
 
   pub else_row : row_of s ≡ row_of t

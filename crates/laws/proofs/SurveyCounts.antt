@@ -21,14 +21,15 @@ use Rattle.format.specs.Survey.{add_row, totals_below}
 use Rattle.format.specs.Answers.{located}
 use Rattle.format.specs.declared.Entry.{Entry}
 use Rattle.format.specs.declared.Entry.TheVariants.{Absent, Zero, Sector}
-use Rattle.format.specs.declared.LookupAnswer.{LookupAnswer}
-use Rattle.format.specs.declared.LookupAnswer.TheVariants.{Found}
-use Rattle.format.specs.declared.CheckAnswer.TheVariants.{Accepted}
 use Rattle.format.specs.Accepted.{AcceptedKdmv}
 use Rattle.laws.proofs.Counts.{count_same}
 use Rattle.laws.proofs.AcceptedImage.{accepted_sound}
 use Rattle.laws.proofs.ServedSectors.{accepted_good, served}
 use Rattle.base.specs.SumsBelow.{sum_below}
+use Rattle.std.specs.Prelude.{Result, Ok}
+use Rattle.format.specs.declared.Source.{Source}
+use Rattle.format.specs.declared.Refusal.{Refusal}
+use Rattle.format.specs.AnswerParts.{accepted_as}
 
 -- ---- each number below n has one of four values
 one_of_four : (v : ℕ) → v ≤ 3
@@ -54,7 +55,7 @@ kind_few true (Sector e) = omega arith
 kind_few false (Sector e) = omega arith
 
 -- ---- the kind by the entry table is the lookup's
-kind_served : (s : List ℕ) (packed : Bool) (o : ℕ) (d : Entry) → (located (Found (entry_source s packed o d))).kind
+kind_served : (s : List ℕ) (packed : Bool) (o : ℕ) (d : Entry) → (located (Ok (entry_source s packed o d))).kind
     ≡ entry_kind packed d
 unfolding entry_source grain_source entry_kind pick
 kind_served s packed o Absent = refl
@@ -62,14 +63,14 @@ kind_served s packed o Zero = refl
 kind_served s true o (Sector e) = refl
 kind_served s false o (Sector e) = refl
 
-number_served : (s : List ℕ) (packed : Bool) (o : ℕ) (d : Entry) → (located (Found (entry_source s packed o d))).number ≡ 0
+number_served : (s : List ℕ) (packed : Bool) (o : ℕ) (d : Entry) → (located (Ok (entry_source s packed o d))).number ≡ 0
 unfolding entry_source grain_source pick
 number_served s packed o Absent = refl
 number_served s packed o Zero = refl
 number_served s true o (Sector e) = refl
 number_served s false o (Sector e) = refl
 
-module _ (s : List ℕ) (c size : ℕ) (a : check s ≡ Accepted c size) where
+module _ (s : List ℕ) (c size : ℕ) (a : check s ≡ accepted_as c size) where
   meets : AcceptedKdmv s
   meets = (accepted_sound s c size a).0
 
@@ -93,8 +94,8 @@ module _ (s : List ℕ) (c size : ℕ) (a : check s ≡ Accepted c size) where
       let found = served s meets x low in
       let o = x % (header_of s).grain_size in
       let d = grain_entry s (header_of s) (x / (header_of s).grain_size) in (
-        ap (λ (r : LookupAnswer). (located r).number) found ∙ number_served s (header_of s).packed o d,
-        ap (λ (r : LookupAnswer). (located r).kind) found ∙ kind_served s (header_of s).packed o d,
+        ap (λ (r : Result Source Refusal). (located r).number) found ∙ number_served s (header_of s).packed o d,
+        ap (λ (r : Result Source Refusal). (located r).kind) found ∙ kind_served s (header_of s).packed o d,
       )
 
   -- the lookup of a grain's first sector

@@ -27,32 +27,36 @@ use Rattle.format.specs.declared.Refusal.TheVariants.{TooShort, Magic, Version, 
 use Rattle.format.specs.declared.Refusal.TheVariants.{GrainPast, Marker, CopiesDiffer, SharedSector, SectorPast}
 use Rattle.format.specs.declared.Refusal.TheVariants.{TooLittleRoom, LayersDiffer, NotCollapsible, LayerLengths, StillOpen}
 use Rattle.format.specs.declared.Refusal.TheVariants.{NotMendable, NotClosable, NotNormal, KindGone, NotMovable, ProfileSizes}
-use Rattle.format.specs.declared.CheckAnswer.{CheckAnswer}
-use Rattle.format.specs.declared.CheckAnswer.TheVariants.{Accepted, Refused as unaccepted}
-use Rattle.format.specs.declared.SurveyAnswer.TheVariants.{Surveyed, Refused}
 use Rattle.base.specs.SumsBelow.{sum_below}
+use Rattle.std.specs.Prelude.{Result, Ok, Err}
+use Rattle.format.specs.declared.Shape.{Shape}
+use Rattle.format.specs.AnswerParts.{accepted_as}
 
 -- ---- number and place of a row are the check's
-row_told : (s : List ℕ) (a : CheckAnswer) → ((row_from s (header_of s) a).number ≡ (verdict a).number)
+row_told : (s : List ℕ) (a : Result Shape Refusal) → ((row_from s (header_of s) a).number ≡ (verdict a).number)
     × ((row_from s (header_of s) a).place ≡ (verdict a).place)
 unfolding row_from
-row_told s (Accepted c size) = (refl, refl)
-row_told s (unaccepted r) = (refl, refl)
+row_told s (Ok sizes) = (refl, refl)
+row_told s (Err r) = (refl, refl)
 
 pub survey_number : (s : List ℕ) → ((row_of s).number ≡ (verdict (check s)).number)
     × ((row_of s).place ≡ (verdict (check s)).place)
 survey_number s = row_told s (check s)
 
 -- a refused image has four zeros, an accepted one number and place 0
-pub survey_refused_lem : (s : List ℕ) (r : Refusal) → check s ≡ unaccepted r
+pub survey_refused_lem : (s : List ℕ) (r : Refusal) → check s ≡ Err r
     → row_of s ≡ record { stored = 0; zero = 0; absent = 0; packed = 0; number = number r; place = place r }
 unfolding row_from
 survey_refused_lem s r e = rw e
 
-pub survey_accepted : (s : List ℕ) (c size : ℕ) → check s ≡ Accepted c size → ((row_of s).number ≡ 0) × ((row_of s).place ≡ 0)
+pub survey_accepted : (s : List ℕ) (c size : ℕ) → check s ≡ accepted_as c size
+    → ((row_of s).number ≡ 0) × ((row_of s).place ≡ 0)
 survey_accepted s c size e =
-    let r = survey_number s in
-    (r.0 ∙ ap (λ (a : CheckAnswer). (verdict a).number) e, r.1 ∙ ap (λ (a : CheckAnswer). (verdict a).place) e)
+    let r = survey_number s in (
+      r.0 ∙ ap (λ (a : Result Shape Refusal). (verdict a).number) e,
+      r.1
+          ∙ ap (λ (a : Result Shape Refusal). (verdict a).place) e,
+    )
 
 -- ---- every refusal has its word in the tally
 number_few : (r : Refusal) → (1 ≤ number r) × (number r ≤ 63)
@@ -81,9 +85,9 @@ number_few KindGone = (omega arith, omega arith)
 number_few NotMovable = (omega arith, omega arith)
 number_few ProfileSizes = (omega arith, omega arith)
 
-verdict_few : (a : CheckAnswer) → (verdict a).number ≤ 63
-verdict_few (Accepted c size) = omega arith
-verdict_few (unaccepted r) = (number_few r).1
+verdict_few : (a : Result Shape Refusal) → (verdict a).number ≤ 63
+verdict_few (Ok sizes) = omega arith
+verdict_few (Err r) = (number_few r).1
 
 -- a number up to m is one of 1 to m, or 0
 words_none : (v m : ℕ) → m < v → sum_below (λ i. pick (eqb v (i + 1)) 1 0) m ≡ 0
@@ -134,7 +138,7 @@ survey_images s l n =
 
 -- ---- the lists, where the survey answers: row k stands from word 6 x k on, and words past the last row are kept
 module _ (s l d t : List ℕ) where
-  module _ (all : Totals) (e : survey s l (length d) (length t) ≡ Surveyed all) where
+  module _ (all : Totals) (e : survey s l (length d) (length t) ≡ Ok all) where
     rows_are : survey_rows s l d t ≡ over d 0 (rows_below s l (length l))
     unfolding after_survey
     rows_are = rw e
@@ -161,7 +165,7 @@ module _ (s l d t : List ℕ) where
         rw (rows_are, ← long) (at ∙ get_or-drop (0 + length (rows_below s l (length l))) d i 0 ∙ rw zero-add)
 
   -- on a refusal all of both
-  pub survey_kept : (r : Refusal) → survey s l (length d) (length t) ≡ Refused r → (survey_rows s l d t ≡ d)
+  pub survey_kept : (r : Refusal) → survey s l (length d) (length t) ≡ Err r → (survey_rows s l d t ≡ d)
       × (survey_tally s l d t ≡ t)
   unfolding after_survey
   survey_kept r e = (rw e, rw e)

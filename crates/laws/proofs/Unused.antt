@@ -26,12 +26,9 @@ use Rattle.format.specs.Check.{check_apart, check_copies, check_grains, check_la
 use Rattle.format.specs.declared.Header.{Header}
 use Rattle.format.specs.declared.Entry.{Entry}
 use Rattle.format.specs.declared.Entry.TheVariants.{Absent, Zero, Sector}
-use Rattle.format.specs.declared.Lowest.{Lowest}
-use Rattle.format.specs.declared.Lowest.TheVariants.{None, Grain}
 use Rattle.format.specs.declared.MisplacedPart.TheVariants.{Descriptor, Directory, RedundantDirectory}
 use Rattle.format.specs.declared.MisplacedPart.TheVariants.{PrimaryTable, RedundantTable}
 use Rattle.format.specs.declared.Refusal.{Refusal}
-use Rattle.format.specs.declared.CheckAnswer.{CheckAnswer}
 use Rattle.format.proofs.Geometry.{entry_used}
 use Rattle.format.proofs.Entries.{by_entry, some_same, sectors_same, some_sectors, past_same}
 use Rattle.format.proofs.Inside.{table_in, named_in}
@@ -39,6 +36,8 @@ use Rattle.format.proofs.LowestGrain.{none_lowest, lowest_same}
 use Rattle.format.proofs.ReadAlike.{areas_frame}
 use Rattle.format.proofs.Places.{Places, places_kept, primary_in, directory_in, redundant_in, redundant_tables_lem}
 use Rattle.laws.specs.Unused.{SameEntries, SameTables, SameInUse}
+use Rattle.std.specs.Prelude.{Result, Option, Some, None}
+use Rattle.format.specs.declared.Shape.{Shape}
 
 -- ---- two directory entries
 copy_same : (s t : List ℕ) (n : ℕ) (a b : Entry) → ((u : ℕ) → a ≡ Sector u → SameEntries s t u n)
@@ -53,11 +52,11 @@ copy_same s t n a b f g =
     by_entry (copy_differs s n (Sector u)) (copy_differs t n (Sector u)) refl refl b
     (λ v j. some_same _ _ n (λ k l. rw (f u i k l, g v j k l))))
 
-unless_same : (l : Lowest) (refusal : ℕ → Refusal) (a b : CheckAnswer) → (l ≡ None → a ≡ b)
+unless_same : (l : Option ℕ) (refusal : ℕ → Refusal) (a b : Result Shape Refusal) → (l ≡ None → a ≡ b)
     → unless_grain l refusal a ≡ unless_grain l refusal b
 unfolding unless_grain
 unless_same None refusal a b f = f refl
-unless_same (Grain g) refusal a b f = refl
+unless_same (Some g) refusal a b f = refl
 
 -- ---- 8: a directory is read where it lies in the file
 module _ (s t : List ℕ) (h : Header) (directory : ℕ) (both : SameTables s t h directory)

@@ -18,20 +18,19 @@ use Rattle.format.specs.declared.Entry.TheVariants.{Absent, Zero, Sector}
 use Rattle.format.specs.declared.Source.{Source}
 use Rattle.format.specs.declared.Source.TheVariants.{Absent as no_source, Zero as zero_source}
 use Rattle.format.specs.declared.Refusal.{Refusal}
-use Rattle.format.specs.declared.LookupAnswer.{LookupAnswer}
-use Rattle.format.specs.declared.LookupAnswer.TheVariants.{Found, Refused}
 use Rattle.format.specs.Judged.{Sound}
 use Rattle.format.proofs.Geometry.{grain_of_lem, entry_used}
 use Rattle.format.proofs.Entries.{some_sectors, past_same}
 use Rattle.format.proofs.Places.{directory_in}
 use Rattle.laws.specs.Unused.{SameInUse}
+use Rattle.std.specs.Prelude.{Result, Ok, Err}
 
 -- the same answer, and where it is a source one of which R holds
-pub data SameAnswer (R : Source → Type 0) : LookupAnswer → LookupAnswer → Type 0 where
-  refused : {r : Refusal} → SameAnswer R (Refused r) (Refused r)
-  found : {a : Source} → R a → SameAnswer R (Found a) (Found a)
+pub data SameAnswer (R : Source → Type 0) : Result Source Refusal → Result Source Refusal → Type 0 where
+  refused : {r : Refusal} → SameAnswer R (Err r) (Err r)
+  found : {a : Source} → R a → SameAnswer R (Ok a) (Ok a)
 
-pub answer_same : {R : Source → Type 0} {a b : LookupAnswer} → SameAnswer R a b → a ≡ b
+pub answer_same : {R : Source → Type 0} {a b : Result Source Refusal} → SameAnswer R a b → a ≡ b
 answer_same refused = refl
 answer_same (found r) = refl
 

@@ -10,21 +10,24 @@ use Rattle.base.proofs.Steps.{or_no, pick_both}
 use Rattle.format.specs.Header.{header_of, judge}
 use Rattle.format.specs.Source.{sector_lookup}
 use Rattle.format.specs.Chain.{unlike, layer_at, if_known, headers_down, layers_differ, walk_down, walk, chain_lookup}
-use Rattle.format.specs.declared.ChainAnswer.{ChainAnswer}
 use Rattle.format.proofs.Entries.{some_same}
 use Rattle.laws.specs.Unused.{SameUsed}
 use Rattle.laws.proofs.UsedAnswers.{used_lookup}
+use Rattle.std.specs.Prelude.{Result}
+use Rattle.format.specs.declared.LayerSource.{LayerSource}
+use Rattle.format.specs.declared.LayerRefusal.{LayerRefusal}
 
 -- what a chain asks of a layer
 pub record SameLayer (s t : List ℕ) : Type 0 where
-  pub judged : (k : ℕ) (a : ChainAnswer) → if_known k (judge s) a ≡ if_known k (judge t) a
+  pub judged : (k : ℕ) (a : Result LayerSource LayerRefusal) → if_known k (judge s) a ≡ if_known k (judge t) a
   pub capacity : (header_of s).capacity ≡ (header_of t).capacity
   pub grain_size : (header_of s).grain_size ≡ (header_of t).grain_size
   pub looked : (x : ℕ) → sector_lookup s x ≡ sector_lookup t x
 
 module _ (s t lengths : List ℕ) (long : length s ≡ length t)
     (each : (k : ℕ) → k < length lengths → SameLayer (layer_at s lengths k) (layer_at t lengths k)) where
-  headers_same : (n : ℕ) → n ≤ length lengths → (a : ChainAnswer) → headers_down s lengths n a ≡ headers_down t lengths n a
+  headers_same : (n : ℕ) → n ≤ length lengths → (a : Result LayerSource LayerRefusal) → headers_down s lengths n a
+      ≡ headers_down t lengths n a
   unfolding headers_down
   headers_same zero l a = refl
   headers_same (suc n) l a =

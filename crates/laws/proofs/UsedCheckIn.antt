@@ -17,8 +17,6 @@ use Rattle.format.specs.CheckIn.{words_needed, marked_sectors, came_to_marking, 
 use Rattle.format.specs.CheckIn.{list_after_check}
 use Rattle.format.specs.declared.Taken.TheVariants.{KdmvAlone}
 use Rattle.format.specs.declared.Refusal.TheVariants.{TooLittleRoom}
-use Rattle.format.specs.declared.CheckAnswer.{CheckAnswer}
-use Rattle.format.specs.declared.CheckAnswer.TheVariants.{Refused}
 use Rattle.format.proofs.CameToMarking.{unmarked_of_lem}
 use Rattle.format.proofs.HeaderJudged.{judged_header}
 use Rattle.format.proofs.Places.{places_kept}
@@ -26,6 +24,9 @@ use Rattle.laws.specs.Unused.{SameUsed}
 use Rattle.laws.proofs.CheckInRoom.{came_plain}
 use Rattle.laws.proofs.Unused.{areas_same}
 use Rattle.laws.proofs.UsedAnswers.{used_check}
+use Rattle.std.specs.Prelude.{Result, Err}
+use Rattle.format.specs.declared.Shape.{Shape}
+use Rattle.format.specs.declared.Refusal.{Refusal}
 
 module _ (s t : List ℕ) (both : SameUsed s t) where
   -- ---- where the check comes to 12 they have one length and the same areas
@@ -46,9 +47,9 @@ module _ (s t : List ℕ) (both : SameUsed s t) where
   room_same : (room : ℕ) → check_in_room s room ≡ check_in_room t room
   unfolding check_in_room
   room_same room =
-      ap (λ (b : Bool). pick b (Refused TooLittleRoom) (check s))
+      ap (λ (b : Bool). pick b (Err TooLittleRoom) (check s))
       (and_both (came_to_marking (check s)) _ _ (λ came. ap (λ (n : ℕ). ltb room (ceil n 64)) (sectors_same came)))
-      ∙ ap (λ (a : CheckAnswer). pick (came_to_marking a && ltb room (words_needed t)) (Refused TooLittleRoom) a)
+      ∙ ap (λ (a : Result Shape Refusal). pick (came_to_marking a && ltb room (words_needed t)) (Err TooLittleRoom) a)
       (used_check s t both)
 
   pub used_check_in : (room : ℕ) → check_in s room ≡ check_in t room
@@ -67,4 +68,5 @@ module _ (s t : List ℕ) (both : SameUsed s t) where
       pick_both ◌≡◌ (came_to_marking a) _ _ _ _
       (λ came. ap (λ (n : ℕ). over list 0 (zeros (ceil n 64))) (sectors_same (came_plain s (length list) came).1))
       (λ n. refl)
-      ∙ ap (λ (a : CheckAnswer). pick (came_to_marking a) (over list 0 (zeros (words_needed t))) list) (room_same (length list))
+      ∙ ap (λ (a : Result Shape Refusal). pick (came_to_marking a) (over list 0 (zeros (words_needed t))) list)
+      (room_same (length list))

@@ -15,9 +15,6 @@ use Rattle.format.specs.Collapse.{map_of, if_accepted, not_collapsible, still_op
 use Rattle.format.specs.Collapse.{collapse}
 use Rattle.format.specs.declared.Entry.{Entry}
 use Rattle.format.specs.declared.Entry.TheVariants.{Absent, Zero, Sector}
-use Rattle.format.specs.declared.CheckAnswer.{CheckAnswer}
-use Rattle.format.specs.declared.CheckAnswer.TheVariants.{Accepted, Refused as unaccepted}
-use Rattle.format.specs.declared.CollapseAnswer.{CollapseAnswer}
 use Rattle.format.proofs.LayersAt.{alike}
 use Rattle.laws.specs.Layers.{Layer}
 use Rattle.laws.specs.Unused.{SameUsed}
@@ -25,6 +22,10 @@ use Rattle.laws.proofs.UsedAnswers.{used_check, header_accepted, accepted_entrie
 use Rattle.laws.proofs.CollapsedLayers.{capacity_is, size_is}
 use Rattle.laws.proofs.CollapsedAnswer.{own_layer}
 use Rattle.laws.proofs.CollapsedSelf.{collapse_self}
+use Rattle.std.specs.Prelude.{Result, Ok, Err}
+use Rattle.format.specs.declared.Shape.{Shape}
+use Rattle.format.specs.declared.Refusal.{Refusal}
+use Rattle.format.specs.AnswerParts.{accepted_as}
 
 -- ---- a layer's entries
 module _ (s t : List ℕ) (both : SameUsed s t) {c size : ℕ} (p : Layer c size s) where
@@ -52,11 +53,11 @@ below_same m k zero e = refl
 below_same m k (suc n) e = rw (below_same m k n (λ g b. e g (omega arith)), e n (omega arith))
 
 -- ---- what an answer leaves open
-pub if_same : (a : CheckAnswer) (x y : CollapseAnswer) → ((c size : ℕ) → a ≡ Accepted c size → x ≡ y)
+pub if_same : (a : Result Shape Refusal) (x y : Result ℕ Refusal) → ((c size : ℕ) → a ≡ accepted_as c size → x ≡ y)
     → if_accepted a x ≡ if_accepted a y
 unfolding if_accepted
-if_same (unaccepted r) x y f = refl
-if_same (Accepted c size) x y f = f c size refl
+if_same (Err r) x y f = refl
+if_same (Ok sizes) x y f = f sizes.capacity sizes.grain_size refl
 
 -- ---- collapse: s and t are the lower images, u and v the upper ones
 module _ (s t u v : List ℕ) (low : SameUsed s t) (up : SameUsed u v) where

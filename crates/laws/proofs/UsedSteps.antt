@@ -13,14 +13,14 @@ use Rattle.format.specs.Judged.{Sound}
 use Rattle.format.specs.declared.Header.{Header}
 use Rattle.format.specs.declared.Entry.{Entry}
 use Rattle.format.specs.declared.Entry.TheVariants.{Absent, Zero, Sector}
-use Rattle.format.specs.declared.HeaderAnswer.{HeaderAnswer}
-use Rattle.format.specs.declared.HeaderAnswer.TheVariants.{Known, Refused}
 use Rattle.format.proofs.Geometry.{grain_of_lem, entry_used}
 use Rattle.format.proofs.HeaderSound.{sound_of}
 use Rattle.format.proofs.Places.{directory_in}
 use Rattle.laws.specs.Unused.{SameInUse, SameUsed}
 use Rattle.laws.proofs.UnusedLookup.{in_table_lem}
 use Rattle.laws.proofs.UsedAnswers.{used_lookup}
+use Rattle.std.specs.Prelude.{Result, Ok, Err}
+use Rattle.format.specs.declared.Refusal.{Refusal}
 
 module _ (s t : List ℕ) (h : Header) (sound : Sound h) (same : SameInUse s t h) (x : ℕ) where
   abbrev g : ℕ
@@ -61,10 +61,10 @@ module _ (s t : List ℕ) (h : Header) (sound : Sound h) (same : SameInUse s t h
       rw (← own) (table_same used own _ refl))))
 
 module _ (s t : List ℕ) (both : SameUsed s t) (x : ℕ) where
-  from : (a : HeaderAnswer) → judge s ≡ a → way_from s x a ≡ way_from t x a
+  from : (a : Result Header Refusal) → judge s ≡ a → way_from s x a ≡ way_from t x a
   unfolding way_from
-  from (Refused r) e = refl
-  from (Known h) e = way_same s t h (sound_of s h e) (both.used h e) x
+  from (Err r) e = refl
+  from (Ok h) e = way_same s t h (sound_of s h e) (both.used h e) x
 
   pub used_steps : lookup_steps s x ≡ lookup_steps t x
   used_steps =

@@ -6,11 +6,11 @@ use Rattle.format.specs.Stream.{KeptGrain, kept_grains, kept_sectors}
 use Rattle.format.specs.Tail.{new_directory, tail_sectors}
 use Rattle.format.specs.Close.{not_closable, tail_of}
 use Rattle.format.specs.declared.Header.{Header}
-use Rattle.format.specs.declared.HeaderAnswer.TheVariants.{Known}
+use Rattle.std.specs.Prelude.{Ok}
 
 -- a start that is refused neither 1 to 6 nor 41
 pub record Closable (s : List ℕ) : Type 0 where
-  pub known : judge_start s ≡ Known (start_of s)
+  pub known : judge_start s ≡ Ok (start_of s)
   pub closable : not_closable s (start_of s) ≡ false
 
 -- what the numbers of an answer are, where the output has `room` bytes

@@ -9,14 +9,15 @@ use Rattle.format.specs.declared.Entry.{Entry}
 use Rattle.format.specs.declared.Entry.TheVariants.{Absent, Zero, Sector}
 use Rattle.format.specs.declared.Source.{Source}
 use Rattle.format.specs.declared.Source.TheVariants.{Absent as absent_source, Zero as zero_source, Stored, Packed}
-use Rattle.format.specs.declared.ChainAnswer.{ChainAnswer}
-use Rattle.format.specs.declared.ChainAnswer.TheVariants.{Found, Refused}
-use Rattle.format.specs.declared.CheckAnswer.TheVariants.{Accepted}
+use Rattle.std.specs.Prelude.{Result, Ok, Err}
+use Rattle.format.specs.declared.LayerSource.{LayerSource}
+use Rattle.format.specs.declared.LayerRefusal.{LayerRefusal}
+use Rattle.format.specs.AnswerParts.{accepted_as}
 
 -- ---- layers
 -- accepted with this capacity and grain size, and uncompressed
 pub record Uncompressed (capacity grain_size : ℕ) (s : List ℕ) : Type 0 where
-  pub accepted : check s ≡ Accepted capacity grain_size
+  pub accepted : check s ≡ accepted_as capacity grain_size
   pub unpacked : (header_of s).packed ≡ false
 
 -- what an image's entry of grain g means
@@ -59,9 +60,9 @@ one_if_source zero_source = 0
 one_if_source (Stored sector) = 1
 one_if_source (Packed marker size o) = 0
 
-unfoldable pub one_if_answered : ChainAnswer → ℕ
-one_if_answered (Found a) = one_if_source a.source
-one_if_answered (Refused k r) = 0
+unfoldable pub one_if_answered : Result LayerSource LayerRefusal → ℕ
+one_if_answered (Ok a) = one_if_source a.source
+one_if_answered (Err refused) = 0
 
 -- ---- packed grains: byte i of the file is one of the payload of grain g
 pub record PayloadByte (s : List ℕ) (g i : ℕ) : Type 0 where

@@ -5,11 +5,11 @@ use Rattle.format.specs.Header.{header_of}
 use Rattle.format.specs.Check.{check}
 use Rattle.format.specs.Grains.{Map, merge, all_absent}
 use Rattle.format.specs.Collapse.{map_of, collapsed, not_collapsible, still_open}
-use Rattle.format.specs.declared.CheckAnswer.TheVariants.{Accepted}
+use Rattle.format.specs.AnswerParts.{accepted_as}
 
 -- an image that collapse takes: accepted, with this capacity and grain size, KDMV and uncompressed, and clean
 pub record Layer (capacity grain_size : ℕ) (s : List ℕ) : Type 0 where
-  pub accepted : check s ≡ Accepted capacity grain_size
+  pub accepted : check s ≡ accepted_as capacity grain_size
   pub collapsible : not_collapsible (header_of s) ≡ false
   pub clean : still_open (header_of s) ≡ false
 

@@ -9,7 +9,7 @@ use Rattle.format.specs.declared.Entry.TheVariants.{Sector}
 use Rattle.format.specs.declared.MisplacedPart.{MisplacedPart}
 use Rattle.format.specs.declared.MisplacedPart.TheVariants.{Descriptor, Directory, RedundantDirectory}
 use Rattle.format.specs.declared.MisplacedPart.TheVariants.{PrimaryTable, RedundantTable}
-use Rattle.format.specs.declared.HeaderAnswer.TheVariants.{Known}
+use Rattle.std.specs.Prelude.{Ok}
 
 -- one descriptor number zero and one not, or the descriptor past F
 pub data DescriptorMisplaced (s : List ℕ) (h : Header) : Type 0 where
@@ -41,7 +41,7 @@ Applies s h RedundantTable = (h.redundant ≡ 0 → ⊥) × TableMisplaced s h h
 -- 1 to 7 let the header through, the part with this number applies, and none with a lower one does
 pub record LowestPart (s : List ℕ) (place : ℕ) : Type 0 where
   pub header : Header
-  pub judged : judge s ≡ Known header
+  pub judged : judge s ≡ Ok header
   pub part : MisplacedPart
   pub is : part_number part ≡ place
   pub applies : Applies s header part

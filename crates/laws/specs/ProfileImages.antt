@@ -7,7 +7,7 @@ use Rattle.format.specs.Accepted.{AcceptedKdmv}
 use Rattle.format.specs.Collapse.{normal_form}
 use Rattle.format.specs.Profile.{profile}
 use Rattle.format.specs.declared.Refusal.TheVariants.{NotNormal}
-use Rattle.format.specs.declared.CheckAnswer.TheVariants.{Refused}
+use Rattle.std.specs.Prelude.{Err}
 
 -- an image that meets the profile: it keeps every layout rule of KDMV, is uncompressed and clean, has the two sizes, and is its
 -- own normal form
@@ -32,4 +32,4 @@ pub record FirstAt (a b : List ℕ) (n : ℕ) : Type 0 where
 
 -- refused 42, with a place in the bytes from 512 x F on
 abbrev pub LatePlace : List ℕ → Type 0
-LatePlace s = (n : ℕ) × (profile s ≡ Refused (NotNormal n)) × (512 * file_sectors s ≤ n)
+LatePlace s = (n : ℕ) × (profile s ≡ Err (NotNormal n)) × (512 * file_sectors s ≤ n)

@@ -14,10 +14,9 @@ use Rattle.format.specs.declared.Entry.TheVariants.{Sector}
 use Rattle.format.specs.declared.Refusal.{Refusal}
 use Rattle.format.specs.declared.Refusal.TheVariants.{SectorPast, Misplaced, GrainPast, Marker}
 use Rattle.format.specs.declared.MisplacedPart.TheVariants.{Directory, PrimaryTable}
-use Rattle.format.specs.declared.HeaderAnswer.TheVariants.{Known, Refused as unknown}
-use Rattle.format.specs.declared.LookupAnswer.{LookupAnswer}
-use Rattle.format.specs.declared.LookupAnswer.TheVariants.{Found, Refused}
 use Rattle.format.specs.declared.steps.Way.{Way}
+use Rattle.std.specs.Prelude.{Result, Ok, Err}
+use Rattle.format.specs.declared.Source.{Source}
 
 -- the grain of sector x, what the directory's entry for it means, and what the entry of the table at sector t means
 abbrev pub grain_at : Header → ℕ → ℕ
@@ -30,8 +29,8 @@ abbrev pub in_table_at : List ℕ → Header → ℕ → ℕ → Entry
 in_table_at s h x t = meaning h.one_is_zero (to_table s h (grain_at h x) t).table_entry
 
 -- what an entry gives sector x, by the entry table and, of a packed grain, its marker
-abbrev pub served_by : List ℕ → Header → ℕ → Entry → LookupAnswer
-served_by s h x e = Found (entry_source s h.packed (x % h.grain_size) e)
+abbrev pub served_by : List ℕ → Header → ℕ → Entry → Result Source Refusal
+served_by s h x e = Ok (entry_source s h.packed (x % h.grain_size) e)
 
 -- 8 of a table at sector t, 9 and 10 of a grain at sector e
 abbrev pub table_past : List ℕ → Header → ℕ → Bool
@@ -45,7 +44,7 @@ own_broken s h x e = h.packed && marker_broken s h.grain_size (grain_at h x) e
 
 -- x is a sector of the disk; the directory lies in the file; its entry names the table at sector t, which lies there too
 pub record OfDisk (s : List ℕ) (h : Header) (x : ℕ) : Type 0 where
-  pub known : judge s ≡ Known h
+  pub known : judge s ≡ Ok h
   pub below : x < h.capacity
 
 pub record ToDirectory (s : List ℕ) (h : Header) (x : ℕ) : Type 0 where
@@ -57,24 +56,24 @@ pub record ToTable (s : List ℕ) (h : Header) (x t : ℕ) : Type 0 where
   pub named : in_directory s h x ≡ Sector t
   pub placed : table_past s h t ≡ false
 
-pub data Reached (s : List ℕ) (x : ℕ) : LookupAnswer → Way → Type 0 where
+pub data Reached (s : List ℕ) (x : ℕ) : Result Source Refusal → Way → Type 0 where
   -- 1 to 7 and 43, and 20: nothing is told
-  header : {r : Refusal} → judge s ≡ unknown r → Reached s x (Refused r) no_way
-  past : {h : Header} → judge s ≡ Known h → h.capacity ≤ x → Reached s x (Refused SectorPast) no_way
+  header : {r : Refusal} → judge s ≡ Err r → Reached s x (Err r) no_way
+  past : {h : Header} → judge s ≡ Ok h → h.capacity ≤ x → Reached s x (Err SectorPast) no_way
   -- 8 with place 2: what 1 means, and the grain
   directory : {h : Header} → OfDisk s h x → directory_misplaced (file_sectors s) h ≡ true
-      → Reached s x (Refused (Misplaced Directory)) (to_grain h (grain_at h x))
+      → Reached s x (Err (Misplaced Directory)) (to_grain h (grain_at h x))
   -- the directory's entry names no table: the source is by it
   no_table : {h : Header} → ToDirectory s h x → ((t : ℕ) → in_directory s h x ≡ Sector t → ⊥)
       → Reached s x (served_by s h x (in_directory s h x)) (to_directory s h (grain_at h x))
   -- 8 with place 4: its table runs past F
   table : {h : Header} {t : ℕ} → ToDirectory s h x → in_directory s h x ≡ Sector t → table_past s h t ≡ true
-      → Reached s x (Refused (Misplaced PrimaryTable)) (to_directory s h (grain_at h x))
+      → Reached s x (Err (Misplaced PrimaryTable)) (to_directory s h (grain_at h x))
   -- 9, 10, and a source by the table's entry
   grain_past : {h : Header} {t e : ℕ} → ToTable s h x t → in_table_at s h x t ≡ Sector e → own_past s h e ≡ true
-      → Reached s x (Refused (GrainPast (grain_at h x))) (to_table s h (grain_at h x) t)
+      → Reached s x (Err (GrainPast (grain_at h x))) (to_table s h (grain_at h x) t)
   marker : {h : Header} {t e : ℕ} → ToTable s h x t → in_table_at s h x t ≡ Sector e → own_past s h e ≡ false
-      → own_broken s h x e ≡ true → Reached s x (Refused (Marker (grain_at h x))) (to_table s h (grain_at h x) t)
+      → own_broken s h x e ≡ true → Reached s x (Err (Marker (grain_at h x))) (to_table s h (grain_at h x) t)
   found : {h : Header} {t : ℕ} → ToTable s h x t
       → ((e : ℕ) → in_table_at s h x t ≡ Sector e → (own_past s h e ≡ false) × (own_broken s h x e ≡ false))
       → Reached s x (served_by s h x (in_table_at s h x t)) (to_table s h (grain_at h x) t)

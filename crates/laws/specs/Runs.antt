@@ -2,8 +2,8 @@
 use Rattle.std.specs.Prelude.{ℕ, ◌≤◌, ◌≡◌, List, length, take}
 use Rattle.format.specs.Layout.{layout_length}
 use Rattle.format.specs.Collapse.{collapse, collapse_output}
-use Rattle.format.specs.declared.CollapseAnswer.TheVariants.{Written}
 use Rattle.laws.specs.Layers.{map_of_layers, Pairing, layer, pair, layers_of}
+use Rattle.std.specs.Prelude.{Ok}
 
 -- what is lent for a pairing: an output for each pair, with what it holds
 pub data Outputs : Pairing → Type 0 where
@@ -17,7 +17,7 @@ pub data Run : (t : Pairing) → Outputs t → List ℕ → Type 0 where
   collapsing : {below above : Pairing} {p : Outputs below} {q : Outputs above} {lower upper : List ℕ} → Run below p lower
       → Run above q upper
       → (out : List ℕ) (long : ℕ)
-      → collapse lower upper (length out) ≡ Written long
+      → collapse lower upper (length out) ≡ Ok long
       → Run (pair below above) (lent p q out) (take long (collapse_output lower upper out))
 
 -- enough room at each step: the output is as long as the layout of the layers that come together there

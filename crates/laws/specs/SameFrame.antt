@@ -11,7 +11,7 @@ use Rattle.format.specs.Frame.{frame}
 use Rattle.format.specs.Chain.{layer_at}
 use Rattle.format.specs.declared.Header.{Header}
 use Rattle.format.specs.declared.Entry.TheVariants.{Sector}
-use Rattle.format.specs.declared.FrameAnswer.TheVariants.{Listed}
+use Rattle.std.specs.Prelude.{Ok}
 
 -- the sectors of each area of a list
 abbrev pub SameAreas : List ℕ → List ℕ → List Area → Type 0
@@ -30,7 +30,7 @@ deciding_areas s h =
 pub record SameFrame (s t : List ℕ) : Type 0 where
   pub room : ℕ
   pub list_count : ℕ
-  pub listed : frame s room ≡ Listed list_count
+  pub listed : frame s room ≡ Ok list_count
   pub long : length s ≡ length t
   pub areas : SameAreas s t (deciding_areas s (header_of s))
   pub markers : (header_of s).packed ≡ true → (g e : ℕ) → g < grains_of (header_of s) → grain_entry s (header_of s) g ≡ Sector e

@@ -6,8 +6,7 @@ use Rattle.format.specs.Chain.{layer_at, chain_lookup}
 use Rattle.format.specs.declared.Source.{Source}
 use Rattle.format.specs.declared.Source.TheVariants.{Absent, Zero, Stored}
 use Rattle.format.specs.declared.LayerSource.{LayerSource}
-use Rattle.format.specs.declared.LookupAnswer.TheVariants.{Found}
-use Rattle.format.specs.declared.ChainAnswer.TheVariants.{Found as FoundIn}
+use Rattle.std.specs.Prelude.{Ok}
 
 -- a source in image s and one in image t are of the same kind, and where they are stored the 512 bytes are the same
 pub data SameSource (s t : List ℕ) : Source → Source → Type 0 where
@@ -21,6 +20,6 @@ pub data SameSource (s t : List ℕ) : Source → Source → Type 0 where
 pub record ServedAs (image slice lengths : List ℕ) (sector : ℕ) : Type 0 where
   pub source : Source
   pub answer : LayerSource
-  pub found : sector_lookup image sector ≡ Found source
-  pub found_in : chain_lookup slice lengths sector ≡ FoundIn answer
+  pub found : sector_lookup image sector ≡ Ok source
+  pub found_in : chain_lookup slice lengths sector ≡ Ok answer
   pub same : SameSource image (layer_at slice lengths answer.layer) source answer.source

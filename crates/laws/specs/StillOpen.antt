@@ -6,7 +6,7 @@ use Rattle.format.specs.Header.{header_of}
 use Rattle.format.specs.Check.{check}
 use Rattle.format.specs.Chain.{unlike}
 use Rattle.format.specs.Collapse.{not_collapsible, still_open}
-use Rattle.format.specs.declared.CheckAnswer.TheVariants.{Accepted}
+use Rattle.format.specs.AnswerParts.{accepted_as}
 
 -- ---- two images
 -- length and every byte but the n from `at` on
@@ -23,7 +23,7 @@ pub record SameButTwice (s t : List ℕ) : Type 0 where
 
 -- the check accepts it, whatever its sizes
 abbrev pub SomeAccepted : List ℕ → Type 0
-SomeAccepted s = (capacity : ℕ) × (grain_size : ℕ) × (check s ≡ Accepted capacity grain_size)
+SomeAccepted s = (capacity : ℕ) × (grain_size : ℕ) × (check s ≡ accepted_as capacity grain_size)
 
 -- t is s but for its dirty number: of KDMV without a footer, accepted or not; of an accepted KDMV image with a footer, where
 -- both sectors have it

@@ -5,7 +5,7 @@ use Rattle.format.specs.Header.{header_of, grains_of, directory_entries_of, judg
 use Rattle.format.specs.Entries.{entry_at, meaning_at, grain_entry, entries_in_use, marker_first, marker_size}
 use Rattle.format.specs.declared.Header.{Header}
 use Rattle.format.specs.declared.Entry.TheVariants.{Sector}
-use Rattle.format.specs.declared.HeaderAnswer.TheVariants.{Known}
+use Rattle.std.specs.Prelude.{Ok}
 
 -- the first n entries of a directory or table
 abbrev pub SameEntries : List ℕ → List ℕ → ℕ → ℕ → Type 0
@@ -31,4 +31,4 @@ pub record SameUsed (s t : List ℕ) : Type 0 where
   pub judged : judge s ≡ judge t
   pub capacity : (header_of s).capacity ≡ (header_of t).capacity
   pub grain_size : (header_of s).grain_size ≡ (header_of t).grain_size
-  pub used : (h : Header) → judge s ≡ Known h → SameInUse s t h
+  pub used : (h : Header) → judge s ≡ Ok h → SameInUse s t h

@@ -57,9 +57,6 @@ pub upper_absent : (lower upper a b : Entry) (z : GrainSource) → a ≡ upper �
 unfolding source_from
 upper_absent lower upper a b z e q i p = rw (← e, q, ← i) p
 
-pub stores_as : (z : ℕ) (a v : GrainSource) → a ≡ v → z ≡ stores v → z ≡ stores a
-stores_as z a v e p = rw e p
-
 -- ---- the entry behind a source
 lower_named : (a b : Entry) (e : ℕ) → source_from a b ≡ Lower e → a ≡ Sector e
 unfolding source_from from_lower

@@ -59,10 +59,8 @@ fn stores_of(source: GrainSource) -> u64
     ensures { (result ≡ stores source) × (result ≤ 1) }
 {
     match source {
-        GrainSource::Absent => 0,
-        GrainSource::Zero => 0,
-        GrainSource::Lower(_) => 1,
-        GrainSource::Upper(_) => 1,
+        GrainSource::Absent | GrainSource::Zero => 0,
+        GrainSource::Lower(_) | GrainSource::Upper(_) => 1,
     }
 }
 
@@ -73,10 +71,8 @@ pub fn count_stored(lower: &[u8], h: Header, upper: &[u8], k: Header) -> u64
 {
     let all = sizes::grains_of(h.capacity, h.grain_size);
     let mut stored: u64 = 0;
-    let mut g: u64 = 0;
-    while g < all {
+    for g in 0..all {
         stored += stores_of(source_of(lower, h, upper, k, g));
-        g += 1;
     }
     stored
 }

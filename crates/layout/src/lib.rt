@@ -10,7 +10,7 @@ ghost use Rattle.format.specs.Grains.{clip};
 use format::Kind;
 use sizes::{directory_entries, directory_sectors};
 
-// The directory's sector.
+// The directory's sector. This and the next are no methods: Kind is the crate format's, and a caller wants one of the two.
 pub fn head_sectors(kind: Kind) -> u64
     ensures { (result ≡ head_sectors kind) × (result ≤ 4) }
 {
@@ -70,10 +70,7 @@ fn kept(capacity: u64, size: u64, g: u64) -> usize
     ensures { result ≡ min (512 * size) (512 * capacity - 512 * (g * size)) }
 {
     let left = capacity - g * size;
-    if size <= left {
-        return (512 * size) as usize;
-    }
-    (512 * left) as usize
+    (512 * size.min(left)) as usize
 }
 
 // Grain g at the front of `out`, from bytes that `src` begins with. Its sectors past capacity are not copied: they are zero.

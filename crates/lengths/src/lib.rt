@@ -9,14 +9,11 @@ pub fn sum_is(lengths: &[u64], n: u64) -> bool
     ensures { result ≡ eqb (lengths_sum lengths.now) n }
 {
     let mut left = n;
-    let mut i = 0;
-    while i < lengths.len() {
-        let next = lengths[i];
-        if left < next {
+    for next in lengths {
+        if left < *next {
             return false;
         }
-        left -= next;
-        i += 1;
+        left -= *next;
     }
     left == 0
 }
@@ -25,6 +22,5 @@ pub fn sum_is(lengths: &[u64], n: u64) -> bool
 pub fn lengths_broken(most: usize, parts: &[u8], lengths: &[u64]) -> bool
     ensures { result ≡ lengths_broken most parts.now lengths.now }
 {
-    let all = sum_is(lengths, parts.len() as u64);
-    (lengths.len() == 0) | ((most < lengths.len()) | !all)
+    lengths.is_empty() || most < lengths.len() || !sum_is(lengths, parts.len() as u64)
 }

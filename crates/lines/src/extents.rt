@@ -1,176 +1,163 @@
-// An extent line: access, sectors, type, quoted name, offset, read from left to right by the last functions here. In their
-// parameters `first` is the extent's first virtual sector, `end` the place where the line ends, v what is left of the line.
-ghost use Rattle.std.specs.Prelude.{◌≡◌};
+// An extent line: access, sectors, type, quoted name, offset, read from left to right; none where one of them is at fault. In
+// the parameters `first` is the extent's first virtual sector, `end` the place where the line ends, v what is left of the line.
+ghost use Rattle.std.specs.Prelude.{◌≡◌, ◌≤◌, IfSome};
 ghost use Rattle.descriptor.specs.Words.{after_word};
-ghost use Rattle.descriptor.specs.Extents.{access_of, type_of, blanks_then_decimal_at, blanks_then_decimal, offset_of};
-ghost use Rattle.descriptor.specs.Extents.{with_name, from_name, with_type, from_type, with_sectors, from_sectors};
+ghost use Rattle.descriptor.specs.Extents.{access_of, type_of, blanks_then_decimal, offset_of};
+ghost use Rattle.descriptor.specs.Extents.{from_name, with_type, from_type, from_sectors};
 ghost use Rattle.lines.specs.LineBounds.{Within};
 
-use super::numbers::number_if;
 use super::places::quoted_place;
-use descriptor::{Extent, Line, Stop};
+use descriptor::{Access, Extent, Kind, Stop};
 
-// The numbers of accesses and types in a record; 0 is for any other word.
-const RW: u64 = 1;
-
-const RDONLY: u64 = 2;
-
-const NOACCESS: u64 = 3;
-
-const FLAT: u64 = 1;
-
-const VMFS: u64 = 2;
-
-const SPARSE: u64 = 3;
-
-const VMFSSPARSE: u64 = 4;
-
-const ZERO: u64 = 5;
-
-// The number of an access.
-pub fn access(w: &[u8]) -> u64
+// The access that a word is.
+#[tactic(auto, unfolding(descriptor::specs::Extents::access_of, base::specs::Pick::pick))]
+pub fn access(w: &[u8]) -> Option<Access>
     ensures { result ≡ access_of w.now }
 {
-    let other = number_if(w, b"noaccess", NOACCESS, 0);
-    let other = number_if(w, b"rdonly", RDONLY, other);
-    number_if(w, b"rw", RW, other)
+    if base::same_word(w, b"rw") {
+        Some(Access::ReadWrite)
+    } else if base::same_word(w, b"rdonly") {
+        Some(Access::ReadOnly)
+    } else if base::same_word(w, b"noaccess") {
+        Some(Access::NoAccess)
+    } else {
+        None
+    }
 }
 
-// The number of a type.
-fn kind(w: &[u8]) -> u64
+// The type that a word is.
+#[tactic(auto, unfolding(descriptor::specs::Extents::type_of, base::specs::Pick::pick))]
+fn kind(w: &[u8]) -> Option<Kind>
     ensures { result ≡ type_of w.now }
 {
-    let other = number_if(w, b"zero", ZERO, 0);
-    let other = number_if(w, b"vmfssparse", VMFSSPARSE, other);
-    let other = number_if(w, b"sparse", SPARSE, other);
-    let other = number_if(w, b"vmfs", VMFS, other);
-    number_if(w, b"flat", FLAT, other)
-}
-
-// The decimal v, where one or more spaces or tabs stand before it.
-fn blanks_then_decimal_at(blanks: usize, v: &[u8]) -> u64
-    ensures { result ≡ blanks_then_decimal_at blanks v.now }
-{
-    if blanks == 0 {
-        return words::NO_VALUE;
+    if base::same_word(w, b"flat") {
+        Some(Kind::Flat)
+    } else if base::same_word(w, b"vmfs") {
+        Some(Kind::Vmfs)
+    } else if base::same_word(w, b"sparse") {
+        Some(Kind::Sparse)
+    } else if base::same_word(w, b"vmfssparse") {
+        Some(Kind::VmfsSparse)
+    } else if base::same_word(w, b"zero") {
+        Some(Kind::Zero)
+    } else {
+        None
     }
-    words::decimal(v)
 }
 
-// The decimal in v, behind the spaces or tabs that v starts with.
-fn blanks_then_decimal(v: &[u8]) -> u64
+// The decimal in v, behind the one or more spaces or tabs that v starts with.
+#[tactic(auto, unfolding(descriptor::specs::Extents::blanks_then_decimal_at, base::specs::Pick::pick))]
+fn blanks_then_decimal(v: &[u8]) -> Option<u64>
     ensures { result ≡ blanks_then_decimal v.now }
 {
-    blanks_then_decimal_at(
-        words::count_before(v, Stop::NotBlank),
-        words::rest(v, Stop::NotBlank),
-    )
+    let blanks = words::count_before(v, Stop::NotBlank);
+    if blanks == 0 {
+        return None;
+    }
+    words::decimal(&v[blanks..])
 }
 
 // After the name: FLAT needs an offset, VMFS has maybe one (else 0), SPARSE and VMFSSPARSE have a name only.
-fn offset(kind: u64, v: &[u8]) -> u64
+#[tactic(auto, unfolding(descriptor::specs::Extents::offset_of, base::specs::Pick::pick))]
+fn offset(kind: Kind, v: &[u8]) -> Option<u64>
     ensures { result ≡ offset_of kind v.now }
 {
-    if v.len() == 0 {
-        if kind == FLAT {
-            return words::NO_VALUE;
-        }
-        return 0;
+    match kind {
+        Kind::Flat => blanks_then_decimal(v),
+        Kind::Vmfs if !v.is_empty() => blanks_then_decimal(v),
+        _ if v.is_empty() => Some(0),
+        _ => None,
     }
-    if (kind == FLAT) | (kind == VMFS) {
-        return blanks_then_decimal(v);
-    }
-    words::NO_VALUE
 }
 
-// Names have 1 to 255 bytes, offsets are 0 to 2^32-1.
-fn with_name(e: Extent) -> Line
-    ensures { result ≡ with_name e.first e.access e.sectors e.kind e.name_at e.name_length e.offset }
-{
-    if (e.name_length == 0) | (255 < e.name_length) {
-        return Line::Fault(34);
-    }
-    if 0xffffffff < e.offset {
-        return Line::Fault(34);
-    }
-    Line::Holds(e)
-}
-
-// v is the quoted name and what stands after it.
-fn from_name(first: u64, end: u64, access: u64, sectors: u64, kind: u64, v: &[u8]) -> Line
+// v is the quoted name and what stands after it. Names have 1 to 255 bytes, offsets are 0 to 2^32-1.
+#[tactic(auto, unfolding(descriptor::specs::Extents::from_name, base::specs::Pick::pick))]
+fn from_name(
+    first: u64,
+    end: u64,
+    access: Access,
+    sectors: u64,
+    kind: Kind,
+    v: &[u8],
+) -> Option<Extent>
     requires { Within end v.now }
-    ensures { result ≡ from_name first end access sectors kind v.now }
+    ensures said { result ≡ from_name first end access sectors kind v.now }
+    ensures sectors { IfSome result (λ e. e.sectors ≡ sectors) }
 {
-    let offset = offset(kind, words::after_quoted(v));
-    with_name(Extent {
+    let name_length = words::quoted_length(v)?;
+    let offset = offset(kind, words::after_quoted(v, name_length))?;
+    if name_length == 0 || 255 < name_length || 0xffffffff < offset {
+        return None;
+    }
+    Some(Extent {
         first,
         sectors,
-        access,
-        kind,
+        access: access.number(),
+        kind: kind.number(),
         name_at: quoted_place(end, v),
-        name_length: words::quoted_length(v),
+        name_length: name_length as u64,
         offset,
     })
 }
 
 // ZERO has neither name nor offset, every other type needs a name. What a line doesn't have is 0.
-fn with_type(first: u64, end: u64, access: u64, sectors: u64, kind: u64, v: &[u8]) -> Line
+#[tactic(auto, unfolding(descriptor::specs::Extents::with_type, base::specs::Pick::pick))]
+fn with_type(
+    first: u64,
+    end: u64,
+    access: Access,
+    sectors: u64,
+    kind: Kind,
+    v: &[u8],
+) -> Option<Extent>
     requires { Within end v.now }
-    ensures { result ≡ with_type first end access sectors kind v.now }
+    ensures said { result ≡ with_type first end access sectors v.now kind }
+    ensures sectors { IfSome result (λ e. e.sectors ≡ sectors) }
 {
-    if kind == 0 {
-        return Line::Fault(34);
+    match kind {
+        Kind::Zero if v.is_empty() => Some(Extent {
+            first,
+            sectors,
+            access: access.number(),
+            kind: kind.number(),
+            name_at: 0,
+            name_length: 0,
+            offset: 0,
+        }),
+        Kind::Zero => None,
+        kind => from_name(first, end, access, sectors, kind, v),
     }
-    if kind == ZERO {
-        if v.len() == 0 {
-            return Line::Holds(Extent {
-                first,
-                sectors,
-                access,
-                kind: ZERO,
-                name_at: 0,
-                name_length: 0,
-                offset: 0,
-            });
-        }
-        return Line::Fault(34);
-    }
-    from_name(first, end, access, sectors, kind, v)
 }
 
 // v is the type and what stands after it.
-fn from_type(first: u64, end: u64, access: u64, sectors: u64, v: &[u8]) -> Line
+fn from_type(first: u64, end: u64, access: Access, sectors: u64, v: &[u8]) -> Option<Extent>
     requires { Within end v.now }
-    ensures { result ≡ from_type first end access sectors v.now }
+    ensures said { result ≡ from_type first end access sectors v.now }
+    ensures sectors { IfSome result (λ e. e.sectors ≡ sectors) }
 {
-    let kind = kind(words::word(v));
+    let kind = kind(words::word(v))?;
     with_type(first, end, access, sectors, kind, words::after_word(v))
 }
 
-// Sectors are 1 to 2^31.
-fn with_sectors(first: u64, end: u64, access: u64, sectors: u64, v: &[u8]) -> Line
+// v is the sectors, 1 to 2^31, and what stands after them.
+#[tactic(auto, unfolding(descriptor::specs::Extents::with_sectors, base::specs::Pick::pick))]
+fn from_sectors(first: u64, end: u64, access: Access, v: &[u8]) -> Option<Extent>
     requires { Within end v.now }
-    ensures { result ≡ with_sectors first end access sectors v.now }
+    ensures said { result ≡ from_sectors first end access v.now }
+    ensures bounded { IfSome result (λ e. e.sectors ≤ 0x80000000) }
 {
-    if (sectors == 0) | (0x80000000 < sectors) {
-        return Line::Fault(34);
+    let sectors = words::decimal(words::word(v))?;
+    if sectors == 0 || 0x80000000 < sectors {
+        return None;
     }
-    from_type(first, end, access, sectors, v)
-}
-
-// v is the sectors and what stands after them.
-fn from_sectors(first: u64, end: u64, access: u64, v: &[u8]) -> Line
-    requires { Within end v.now }
-    ensures { result ≡ from_sectors first end access v.now }
-{
-    let sectors = words::decimal(words::word(v));
-    with_sectors(first, end, access, sectors, words::after_word(v))
+    from_type(first, end, access, sectors, words::after_word(v))
 }
 
 // The line w, which begins with its access.
-pub fn extent_line(first: u64, end: u64, access: u64, w: &[u8]) -> Line
+pub fn extent_line(first: u64, end: u64, access: Access, w: &[u8]) -> Option<Extent>
     requires { Within end w.now }
-    ensures { result ≡ from_sectors first end access (after_word w.now) }
+    ensures said { result ≡ from_sectors first end access (after_word w.now) }
+    ensures bounded { IfSome result (λ e. e.sectors ≤ 0x80000000) }
 {
     from_sectors(first, end, access, words::after_word(w))
 }

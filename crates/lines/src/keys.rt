@@ -1,135 +1,86 @@
 // A line that is key = value, `end` the place where it ends. A line of no form is 32, a required key that is malformed 33.
-ghost use Rattle.std.specs.Prelude.{◌≡◌, ◌≤◌, length};
-ghost use Rattle.descriptor.specs.Words.{no_value, decimal_value, hex, quoted_place, quoted_length};
-ghost use Rattle.descriptor.specs.Keys.{key_of, version_is, cid_is, create_type_is, value_of, with_key, split_at, key_line};
-ghost use Rattle.lines.specs.LineBounds.{Within};
+ghost use Rattle.std.specs.Prelude.{◌≡◌, length, option_and_then, IfOk};
+ghost use Rattle.descriptor.specs.Words.{decimal_value, quoted_place, quoted_length};
+ghost use Rattle.descriptor.specs.Keys.{key_of, version_is, create_type_is, value_of, key_line};
+ghost use Rattle.lines.specs.LineBounds.{Within, Bounded};
 
-use super::numbers::number_if;
 use super::places::quoted_place;
-use descriptor::{Line, Stop};
+use descriptor::{Key, KeyValue, Line, LineFault, Quoted, Stop};
 
-// The required keys' numbers.
-const VERSION: u64 = 1;
-
-const CID: u64 = 2;
-
-const PARENT_CID: u64 = 3;
-
-const CREATE_TYPE: u64 = 4;
-
-// The number of a key; 0 is for any that is not required.
-fn key(w: &[u8]) -> u64
+// The required key that a word is.
+#[tactic(auto, unfolding(descriptor::specs::Keys::key_of, base::specs::Pick::pick))]
+fn key(w: &[u8]) -> Option<Key>
     ensures { result ≡ key_of w.now }
 {
-    let other = number_if(w, b"createtype", CREATE_TYPE, 0);
-    let other = number_if(w, b"parentcid", PARENT_CID, other);
-    let other = number_if(w, b"cid", CID, other);
-    number_if(w, b"version", VERSION, other)
+    if base::same_word(w, b"version") {
+        Some(Key::Version)
+    } else if base::same_word(w, b"cid") {
+        Some(Key::Cid)
+    } else if base::same_word(w, b"parentcid") {
+        Some(Key::ParentCid)
+    } else if base::same_word(w, b"createtype") {
+        Some(Key::CreateType)
+    } else {
+        None
+    }
 }
 
 // Versions are 1 to 3.
-fn version_is(n: u64) -> Line
-    ensures { result ≡ version_is n }
+#[tactic(auto, unfolding(descriptor::specs::Keys::version_is, base::specs::Pick::pick))]
+fn version(v: &[u8]) -> Option<u64>
+    ensures { result ≡ option_and_then version_is (decimal_value v.now) }
 {
-    if (n == 0) | (3 < n) {
-        return Line::Fault(33);
-    }
-    Line::Key(VERSION, n, 0)
+    words::decimal(v).filter(|n| matches!(*n, 1..=3))
 }
 
-fn version(v: &[u8]) -> Line
-    ensures { result ≡ version_is (decimal_value v.now) }
-{
-    version_is(words::decimal(v))
-}
-
-// CID and parentCID are 1 to 8 hex digits.
-fn cid_is(key: u64, n: u64) -> Line
-    ensures { result ≡ cid_is key n }
-{
-    if n == words::NO_VALUE {
-        return Line::Fault(33);
-    }
-    Line::Key(key, n, 0)
-}
-
-fn cid(key: u64, v: &[u8]) -> Line
-    ensures { result ≡ cid_is key (hex v.now) }
-{
-    cid_is(key, words::hex(v))
-}
-
-// The n bytes of a createType and its two quotes are all `long` bytes of the value.
-fn create_type_is(place: u64, long: u64, n: u64) -> Line
-    requires { n ≤ no_value }
-    ensures { result ≡ create_type_is place long n }
-{
-    if n == words::NO_VALUE {
-        return Line::Fault(33);
-    }
-    if long == n + 2 {
-        return Line::Key(CREATE_TYPE, place, n);
-    }
-    Line::Fault(33)
-}
-
-// createType is quoted, no quote inside.
-fn create_type(end: u64, v: &[u8]) -> Line
+// createType is quoted, no quote inside, and nothing stands after it.
+#[tactic(auto, unfolding(descriptor::specs::Keys::create_type_is, base::specs::Pick::pick))]
+fn create_type(end: u64, v: &[u8]) -> Option<Quoted>
     requires { Within end v.now }
-    ensures { result ≡ create_type_is (quoted_place end v.now) (length v.now) (quoted_length v.now) }
+    ensures { result ≡ option_and_then (create_type_is (quoted_place end v.now) (length v.now)) (quoted_length v.now) }
 {
-    create_type_is(
-        quoted_place(end, v),
-        v.len() as u64,
-        words::quoted_length(v),
-    )
+    let length = words::quoted_length(v)?;
+    if v.len() != length + 2 {
+        return None;
+    }
+    Some(Quoted {
+        at: quoted_place(end, v),
+        length: length as u64,
+    })
 }
 
-// The value v of a key; other keys are skipped.
-fn value(end: u64, key: u64, v: &[u8]) -> Line
+// The value v of a required key; CID and parentCID are 1 to 8 hex digits.
+#[tactic(auto, unfolding(descriptor::specs::Keys::value_of))]
+fn value(end: u64, key: Key, v: &[u8]) -> Option<KeyValue>
     requires { Within end v.now }
     ensures { result ≡ value_of end key v.now }
 {
-    if key == 0 {
-        return Line::Skip;
+    match key {
+        Key::Version => version(v).map(KeyValue::Version),
+        Key::Cid => words::hex(v).map(KeyValue::Cid),
+        Key::ParentCid => words::hex(v).map(KeyValue::ParentCid),
+        Key::CreateType => create_type(end, v).map(KeyValue::CreateType),
     }
-    if key == VERSION {
-        return version(v);
-    }
-    if key == CREATE_TYPE {
-        return create_type(end, v);
-    }
-    cid(key, v)
 }
 
-// n of `long` bytes stand before the first =, if all do there is none; w is the key, with its number, and v its value.
-fn with_key(end: u64, n: usize, long: usize, w: &[u8], key: u64, v: &[u8]) -> Line
-    requires { Within end v.now }
-    ensures { result ≡ with_key end n long w.now key v.now }
-{
-    if n == long {
-        return Line::Fault(32);
-    }
-    if w.len() == 0 {
-        return Line::Fault(32);
-    }
-    value(end, key, v)
-}
-
-// The line w, split behind n bytes.
-fn split_at(end: u64, w: &[u8], n: usize) -> Line
-    requires { Within end w.now × (n ≤ length w.now) }
-    ensures { result ≡ split_at end w.now n }
-{
-    let name = words::trim_end(&w[..n]);
-    let v = words::trim_start(words::after(w, n + 1));
-    with_key(end, n, w.len(), name, key(name), v)
-}
-
-// The line w, split at the first =.
-pub fn key_line(end: u64, w: &[u8]) -> Line
+// The line w, split at the first =, with both sides trimmed. Keys that are not required are skipped.
+#[tactic(auto, unfolding(descriptor::specs::Keys::split_at, descriptor::specs::Keys::with_key, base::specs::Pick::pick))]
+pub fn key_line(end: u64, w: &[u8]) -> Result<Line, LineFault>
     requires { Within end w.now }
-    ensures { result ≡ key_line end w.now }
+    ensures said { result ≡ key_line end w.now }
+    ensures bounded { IfOk result Bounded }
 {
-    split_at(end, w, words::count_before(w, Stop::Byte(b'=')))
+    let n = words::count_before(w, Stop::Byte(b'='));
+    if n == w.len() {
+        return Err(LineFault::NoForm);
+    }
+    let name = words::trim_end(&w[..n]);
+    if name.is_empty() {
+        return Err(LineFault::NoForm);
+    }
+    let Some(key) = key(name) else {
+        return Ok(Line::Skip);
+    };
+    let v = words::trim_start(&w[n + 1..]);
+    value(end, key, v).map(Line::Key).ok_or(LineFault::BadKey)
 }

@@ -16,11 +16,12 @@ use Rattle.format.specs.Source.{grain_source, lookup_entry, lookup_table, lookup
 use Rattle.format.specs.declared.Header.{Header}
 use Rattle.format.specs.declared.Entry.{Entry}
 use Rattle.format.specs.declared.Source.TheVariants.{Packed}
-use Rattle.format.specs.declared.HeaderAnswer.{HeaderAnswer}
-use Rattle.format.specs.declared.LookupAnswer.{LookupAnswer}
 use Rattle.format.proofs.Geometry.{grain_of_lem, entry_used}
 use Rattle.format.proofs.Places.{directory_in}
 use Rattle.format.specs.Judged.{Sound}
+use Rattle.std.specs.Prelude.{Result}
+use Rattle.format.specs.declared.Source.{Source}
+use Rattle.format.specs.declared.Refusal.{Refusal}
 
 -- ---- markers
 pub packed_source : (s : List ℕ) (packed : Bool) (e m : ℕ) → packed ≡ true → m ≡ marker_size s e → (o : ℕ) → Packed e m o
@@ -54,14 +55,17 @@ pub sector_of_lem : (h : Header) (x : ℕ) → Sound h → x % h.grain_size < h.
 sector_of_lem h x z = mod-lt x z.sizes.low
 
 -- ---- at an arm of a match
-pub entry_as : (s : List ℕ) (h : Header) (g o : ℕ) (z : LookupAnswer) (r v : Entry) → r ≡ v → z ≡ lookup_entry s h g o v → z
+pub entry_as : (s : List ℕ) (h : Header) (g o : ℕ) (z : Result Source Refusal) (r v : Entry) → r ≡ v → z
+    ≡ lookup_entry s h g o v → z
     ≡ lookup_entry s h g o r
 entry_as s h g o z r v e t = rw e t
 
-pub table_as : (s : List ℕ) (h : Header) (g o : ℕ) (z : LookupAnswer) (r v : Entry) → r ≡ v → z ≡ lookup_table s h g o v → z
+pub table_as : (s : List ℕ) (h : Header) (g o : ℕ) (z : Result Source Refusal) (r v : Entry) → r ≡ v → z
+    ≡ lookup_table s h g o v → z
     ≡ lookup_table s h g o r
 table_as s h g o z r v e t = rw e t
 
-pub judged_as : (s : List ℕ) (x : ℕ) (z : LookupAnswer) (a r v : HeaderAnswer) → r ≡ a → r ≡ v → z ≡ lookup_from s x v → z
+pub judged_as : (s : List ℕ) (x : ℕ) (z : Result Source Refusal) (a r v : Result Header Refusal) → r ≡ a → r ≡ v → z
+    ≡ lookup_from s x v → z
     ≡ lookup_from s x a
 judged_as s x z a r v e q t = rw (← e, q) t

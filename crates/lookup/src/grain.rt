@@ -4,7 +4,7 @@ ghost use Rattle.format.specs.Source.{grain_source, lookup_grain, lookup_entry};
 ghost use Rattle.format.specs.Judged.{Sound};
 
 use entries::{bad_marker, grain_past, marker_size};
-use format::{Entry, Header, LookupAnswer, Refusal, Source};
+use format::{Entry, Header, Refusal, Source};
 
 // Sector o of the grain at sector e.
 fn grain_source(image: &[u8], packed: bool, o: u64, e: u64) -> Source
@@ -21,27 +21,33 @@ fn grain_source(image: &[u8], packed: bool, o: u64, e: u64) -> Source
     Source::Stored(e + o)
 }
 
-fn lookup_grain(image: &[u8], h: Header, g: u64, o: u64, e: u64) -> LookupAnswer
+fn lookup_grain(image: &[u8], h: Header, g: u64, o: u64, e: u64) -> Result<Source, Refusal>
     requires { Sound h × (g ≤ 0x80000000) × (o < h.grain_size) }
     ensures { result ≡ lookup_grain image.now h g o e }
 {
     if grain_past(image, h.packed, h.grain_size, e) {
-        return LookupAnswer::Refused(Refusal::GrainPast(g));
+        return Err(Refusal::GrainPast(g));
     }
     if bad_marker(image, h.packed, h.grain_size, g, e) {
-        return LookupAnswer::Refused(Refusal::Marker(g));
+        return Err(Refusal::Marker(g));
     }
-    LookupAnswer::Found(grain_source(image, h.packed, o, e))
+    Ok(grain_source(image, h.packed, o, e))
 }
 
 // What a table entry says of sector o of grain g.
-pub fn lookup_entry(image: &[u8], h: Header, g: u64, o: u64, entry: Entry) -> LookupAnswer
+pub fn lookup_entry(
+    image: &[u8],
+    h: Header,
+    g: u64,
+    o: u64,
+    entry: Entry,
+) -> Result<Source, Refusal>
     requires { Sound h × (g ≤ 0x80000000) × (o < h.grain_size) }
     ensures { result ≡ lookup_entry image.now h g o entry }
 {
     match entry {
-        Entry::Absent => LookupAnswer::Found(Source::Absent),
-        Entry::Zero => LookupAnswer::Found(Source::Zero),
+        Entry::Absent => Ok(Source::Absent),
+        Entry::Zero => Ok(Source::Zero),
         Entry::Sector(e) => lookup_grain(image, h, g, o, e),
     }
 }

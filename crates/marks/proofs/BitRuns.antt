@@ -5,6 +5,8 @@ use mathlib.Core.Bool.{Bool, true, false, ◌&&◌, true≢false, false≢true}
 use mathlib.Core.Logic.{⊎_elim}
 use mathlib.Core.List.{List}
 use native.Mathlib.Omega.{arith}
+use lib.Dec.{eqb}
+use borrow.Author.Tests.{eqb-true, eqb-false}
 use Rattle.base.proofs.Steps.{lt_or_ge}
 use Rattle.marks.specs.Marks.{Free, Taken, Put, Marking, Tested}
 
@@ -35,7 +37,16 @@ module _ (ws : List ℕ) (from end : ℕ) where
   pub tested_taken : Taken ws from end → Tested ws from end false
   tested_taken t = record { free = λ y. absurd (false≢true y); taken = λ n. t }
 
-tested_join : {ws : List ℕ} {f m e : ℕ} {p q : Bool} → f ≤ m → m ≤ e → Tested ws f m p → Tested ws m e q
+  -- by a number that is 0 where the run is free
+  pub tested_zero : (x : ℕ) → (x ≡ 0 → Tested ws from end true) → ((x ≡ 0 → ⊥) → Tested ws from end false)
+      → Tested ws from end (eqb x 0)
+  tested_zero x f t = go (eqb x 0) refl
+    where
+      go : (b : Bool) → eqb x 0 ≡ b → Tested ws from end b
+      go true e = f (eqb-true x 0 e)
+      go false e = t (eqb-false x 0 e)
+
+pub tested_join : {ws : List ℕ} {f m e : ℕ} {p q : Bool} → f ≤ m → m ≤ e → Tested ws f m p → Tested ws m e q
     → Tested ws f e (p && q)
 tested_join {ws} {p = true} low high t u =
     record {

@@ -8,12 +8,13 @@ use native.Mathlib.Omega.{arith}
 use mir.Syntax.{w64}
 use mir.Val.{Fits}
 use lib.ListN.{length, get_or, set, length-set}
+use lib.Dec.{eqb}
 use lib.Bits.{bit_and, bit_or}
 use Rattle.base.proofs.Steps.{lt_or_ge}
 use Rattle.marks.specs.Marks.{bit, marked, Put, Tested, Mask}
 use Rattle.marks.proofs.Bits.{bit_or_lem, no_common, some_common}
 use Rattle.marks.proofs.BitWords.{sector_at, set_here, set_there}
-use Rattle.marks.proofs.BitRuns.{tested_free, tested_taken}
+use Rattle.marks.proofs.BitRuns.{tested_free, tested_taken, tested_zero}
 
 module _ (ws : List ℕ) (j from end m : ℕ) (mask : Mask (j * 64) from end m) where
   abbrev low : ℕ
@@ -23,14 +24,14 @@ module _ (ws : List ℕ) (j from end m : ℕ) (mask : Mask (j * 64) from end m) 
   high = min end ((j + 1) * 64)
 
   -- ---- tested: a word that shares no bit with the mask has no sector of the run marked, and one that shares a bit has
-  pub word_free : bit_and (get_or ws j 0) m ≡ 0 → Tested ws low high true
+  word_free : bit_and (get_or ws j 0) m ≡ 0 → Tested ws low high true
   word_free z =
       tested_free ws low high
       (λ s l u.
       sector_at ws j (s % 64) s (omega arith) (omega arith)
       ∙ no_common (get_or ws j 0) m z (s % 64) (mask.inside (s % 64) (omega arith) (omega arith) (omega arith)))
 
-  pub word_taken : ((i : ℕ) → Fits w64 (get_or ws i 0)) → (bit_and (get_or ws j 0) m ≡ 0 → ⊥) → Tested ws low high false
+  word_taken : ((i : ℕ) → Fits w64 (get_or ws i 0)) → (bit_and (get_or ws j 0) m ≡ 0 → ⊥) → Tested ws low high false
   word_taken w z =
       let r = some_common (get_or ws j 0) m (w j).fits z in
       let k = r.0 in
@@ -39,6 +40,9 @@ module _ (ws : List ℕ) (j from end m : ℕ) (mask : Mask (j * 64) from end m) 
       let over : end ≤ j * 64 + k → ⊥ = λ n. omega (arith, r.3, mask.over k small n) in
       tested_taken ws low high
       (j * 64 + k, omega arith, omega arith, sector_at ws j k (j * 64 + k) small (omega arith) ∙ r.2)
+
+  pub word_tested : ((i : ℕ) → Fits w64 (get_or ws i 0)) → Tested ws low high (eqb (bit_and (get_or ws j 0) m) 0)
+  word_tested w = tested_zero ws low high (bit_and (get_or ws j 0) m) word_free (word_taken w)
 
   -- ---- marked
   module _ (h : j < length ws) where
@@ -81,12 +85,9 @@ module _ (ws : List ℕ) (from m : ℕ) (mask : Mask (from / 64 * 64) from ((fro
   first_high : min ((from / 64 + 1) * 64) ((from / 64 + 1) * 64) ≡ (from / 64 + 1) * 64
   first_high = omega arith
 
-  pub first_free : bit_and (get_or ws (from / 64) 0) m ≡ 0 → Tested ws from ((from / 64 + 1) * 64) true
-  first_free z = rw (first_low, first_high) at (word_free ws (from / 64) from _ m mask z)
-
-  pub first_taken : ((i : ℕ) → Fits w64 (get_or ws i 0)) → (bit_and (get_or ws (from / 64) 0) m ≡ 0 → ⊥)
-      → Tested ws from ((from / 64 + 1) * 64) false
-  first_taken w z = rw (first_low, first_high) at (word_taken ws (from / 64) from _ m mask w z)
+  pub first_tested : ((i : ℕ) → Fits w64 (get_or ws i 0))
+      → Tested ws from ((from / 64 + 1) * 64) (eqb (bit_and (get_or ws (from / 64) 0) m) 0)
+  first_tested w = rw (first_low, first_high) at (word_tested ws (from / 64) from _ m mask w)
 
   pub first_put : from < 64 * length ws
       → Put ws (set ws (from / 64) (bit_or (get_or ws (from / 64) 0) m)) from ((from / 64 + 1) * 64)
@@ -100,12 +101,9 @@ module _ (ws : List ℕ) (end m : ℕ) (some : 1 ≤ end) (mask : Mask ((end - 1
   last_high : min end (((end - 1) / 64 + 1) * 64) ≡ end
   last_high = omega arith
 
-  pub last_free : bit_and (get_or ws ((end - 1) / 64) 0) m ≡ 0 → Tested ws ((end - 1) / 64 * 64) end true
-  last_free z = rw (last_low, last_high) at (word_free ws ((end - 1) / 64) _ end m mask z)
-
-  pub last_taken : ((i : ℕ) → Fits w64 (get_or ws i 0)) → (bit_and (get_or ws ((end - 1) / 64) 0) m ≡ 0 → ⊥)
-      → Tested ws ((end - 1) / 64 * 64) end false
-  last_taken w z = rw (last_low, last_high) at (word_taken ws ((end - 1) / 64) _ end m mask w z)
+  pub last_tested : ((i : ℕ) → Fits w64 (get_or ws i 0))
+      → Tested ws ((end - 1) / 64 * 64) end (eqb (bit_and (get_or ws ((end - 1) / 64) 0) m) 0)
+  last_tested w = rw (last_low, last_high) at (word_tested ws ((end - 1) / 64) _ end m mask w)
 
   pub last_put : end ≤ 64 * length ws
       → Put ws (set ws ((end - 1) / 64) (bit_or (get_or ws ((end - 1) / 64) 0) m)) ((end - 1) / 64 * 64) end

@@ -1,16 +1,25 @@
 -- A run of whole words, one a turn: the words first..j are done, and word j is next.
-use Prim.Native.Nat.{ℕ, ◌+◌, ◌*◌, ◌/◌, ◌%◌, ◌-◌, ◌^◌, ◌≤◌, ◌<◌}
+use Prim.Native.Nat.{ℕ, zero, suc, ◌+◌, ◌*◌, ◌/◌, ◌%◌, ◌-◌, ◌^◌, ◌≤◌, ◌<◌}
 use mathlib.Core.Path.{◌≡◌, refl, ap, ◌∙◌}
 use mathlib.Core.Bool.{Bool, true, false}
 use mathlib.Core.List.{List}
 use native.Mathlib.Omega.{arith}
 use mir.Syntax.{w64}
 use mir.Val.{Fits}
-use lib.ListN.{length, get_or, set, length-set}
+use native.Mathlib.Numerals.{add-one}
+use lib.Dec.{eqb}
+use lib.ListN.{length, get_or, set, take, drop, replicate, length-set, length-replicate}
+use lib.Seq.{drop-cons}
+use Rattle.std.specs.List.{list_all}
+use Rattle.std.proofs.lemmas.List.{get_or-replicate}
+use Rattle.base.specs.Bytes.{over}
+use Rattle.base.proofs.Over.{over_length}
+use Rattle.base.proofs.OverApart.{over_below, over_within, over_past}
 use Rattle.marks.specs.Marks.{bit, Free, Taken, Put, Marking, Tested}
 use Rattle.marks.proofs.Bits.{ones_set, bit_zero, some_bit}
 use Rattle.marks.proofs.BitWords.{sector_at, set_here, set_there}
-use Rattle.marks.proofs.BitRuns.{free_join, put_join, taken_widen, tested_free, tested_taken, marking_done}
+use Rattle.marks.proofs.BitRuns.{free_join, put_join, taken_widen, tested_free, tested_taken}
+use Rattle.marks.proofs.BitRuns.{tested_zero, tested_join, marking_done}
 use Rattle.marks.proofs.BitRuns.{marking_refused}
 
 -- ---- word j
@@ -34,26 +43,41 @@ module _ (ws : List ℕ) (j : ℕ) where
         over = λ s l. set_there ws j (2 ^ 64 - 1) s (omega arith);
       }
 
--- ---- after the words before it
-module _ (ws : List ℕ) (first j : ℕ) (o : first ≤ j) where
-  pub whole_free : Free ws (first * 64) (j * 64) → get_or ws j 0 ≡ 0 → Free ws (first * 64) ((j + 1) * 64)
-  whole_free f z = free_join ws f (word_free ws j z)
+-- ---- n words from word `first` on
+pub whole_tested : (ws : List ℕ) (first n : ℕ) → ((i : ℕ) → Fits w64 (get_or ws i 0)) → first + n ≤ length ws
+    → Tested ws (first * 64) ((first + n) * 64) (list_all (λ x. eqb x 0) (take n (drop first ws)))
+whole_tested ws first zero w h = tested_free ws _ _ (λ s l u. absurd (omega arith))
+whole_tested ws first (suc n) w h =
+    let e : first + 1 + n ≡ first + suc n = omega arith in
+    let here = tested_zero ws (first * 64) ((first + 1) * 64) (get_or ws first 0)
+    (λ z. tested_free ws _ _ (word_free ws first z))
+    (λ z. tested_taken ws _ _ (word_taken ws first (w first).fits z)) in
+    let rest = rw e at (whole_tested ws (first + 1) n w (omega arith)) in
+    rw (drop-cons ws first 0 (omega arith), ← add-one first) (tested_join (omega arith) (omega arith) here rest)
 
-  pub whole_taken : (stop : ℕ) → j < stop → ((i : ℕ) → Fits w64 (get_or ws i 0)) → (get_or ws j 0 ≡ 0 → ⊥)
-      → Tested ws (first * 64) (stop * 64) false
-  whole_taken stop l w z = tested_taken ws _ _ (taken_widen ws (omega arith) (omega arith) (word_taken ws j (w j).fits z))
+module _ (ws : List ℕ) (first n : ℕ) (h : first + n ≤ length ws) where
+  abbrev full : List ℕ
+  full = replicate n (2 ^ 64 - 1)
 
-  pub whole_put : (xs : List ℕ) (stop : ℕ) → Put xs ws (first * 64) (j * 64) → j < stop → stop ≤ length xs
-      → Put xs (set ws j (2 ^ 64 - 1)) (first * 64) ((j + 1) * 64)
-  whole_put xs stop p l h = put_join (omega arith) (omega arith) p (word_put ws j (omega (arith, p.size)))
+  inside : first + length full ≤ length ws
+  inside = omega (arith, length-replicate n (2 ^ 64 - 1))
 
-  -- the loop's end
-  module _ (stop : ℕ) (l : j ≤ stop) (e : stop ≤ j) where
-    pub whole_tested : Free ws (first * 64) (j * 64) → Tested ws (first * 64) (stop * 64) true
-    whole_tested f = let q : j ≡ stop = omega arith in tested_free ws _ _ (rw q at f)
-
-    pub whole_done : (xs : List ℕ) → Put xs ws (first * 64) (j * 64) → Put xs ws (first * 64) (stop * 64)
-    whole_done xs p = let q : j ≡ stop = omega arith in rw q at p
+  pub whole_put : Put ws (over ws first full) (first * 64) ((first + n) * 64)
+  whole_put =
+      record {
+        size = over_length ws first full inside;
+        inside = λ s l u.
+            let q : first + (s / 64 - first) ≡ s / 64 = omega arith in
+            let l : s / 64 - first < n = omega arith in
+            ap (λ (w : ℕ). bit w (s % 64))
+            (rw q at (over_within ws first full inside (s / 64 - first) (omega (arith, length-replicate n (2 ^ 64 - 1))))
+            ∙ get_or-replicate n (s / 64 - first) (2 ^ 64 - 1) 0 l)
+            ∙ ones_set 64 (s % 64) (omega arith);
+        under = λ s u. ap (λ (w : ℕ). bit w (s % 64)) (over_below ws first full inside (s / 64) (omega arith));
+        over = λ s l.
+            ap (λ (w : ℕ). bit w (s % 64))
+            (over_past ws first full inside (s / 64) (omega (arith, length-replicate n (2 ^ 64 - 1))));
+      }
 
 -- ---- two words
 module _ (ws : List ℕ) (j : ℕ) where

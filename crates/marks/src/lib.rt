@@ -15,10 +15,7 @@ fn below(base: usize, end: usize) -> u64
         return 0;
     }
     let count = end - base;
-    if count < 64 {
-        return (1u64 << count) - 1;
-    }
-    ALL
+    if count < 64 { (1u64 << count) - 1 } else { ALL }
 }
 
 // The word of the 64 sectors from `base` on, with those of from..end set.
@@ -49,10 +46,7 @@ fn free_word(words: &[u64], j: usize, from: usize, end: usize) -> bool
     requires { (from ≤ end) × (j < length words.now) × (64 * length words.now < 2 ^ 64) }
     ensures { Tested words.now (max from (j * 64)) (min end ((j + 1) * 64)) result }
 {
-    if words[j] & mask(j * 64, from, end) != 0 {
-        return false;
-    }
-    true
+    words[j] & mask(j * 64, from, end) == 0
 }
 
 // Whether sector `from` and those after it in its word are free.
@@ -60,10 +54,7 @@ fn free_first(words: &[u64], from: usize) -> bool
     requires { from < 64 * length words.now }
     ensures { Tested words.now from ((from / 64 + 1) * 64) result }
 {
-    if words[from / 64] & low_mask(from) != 0 {
-        return false;
-    }
-    true
+    words[from / 64] & low_mask(from) == 0
 }
 
 // Whether the last sector below `end` and those before it in its word are free.
@@ -71,10 +62,7 @@ fn free_last(words: &[u64], end: usize) -> bool
     requires { (1 ≤ end) × (end ≤ 64 * length words.now) }
     ensures { Tested words.now ((end - 1) / 64 * 64) end result }
 {
-    if words[(end - 1) / 64] & high_mask(end) != 0 {
-        return false;
-    }
-    true
+    words[(end - 1) / 64] & high_mask(end) == 0
 }
 
 // Whether all sectors of the words first..stop are free.
@@ -82,14 +70,7 @@ fn free_whole(words: &[u64], first: usize, stop: usize) -> bool
     requires { (first ≤ stop) × (stop ≤ length words.now) }
     ensures { Tested words.now (first * 64) (stop * 64) result }
 {
-    let mut j = first;
-    while j < stop {
-        if words[j] != 0 {
-            return false;
-        }
-        j += 1;
-    }
-    true
+    words[first..stop].iter().all(|w| *w == 0)
 }
 
 // Whether the run from..end, of a sector at least, is free: its first word, whole words, its last word.
@@ -110,7 +91,7 @@ fn put_word(words: &mut [u64], j: usize, from: usize, end: usize)
     requires { (from ≤ end) × (j < length words.old) × (64 * length words.old < 2 ^ 64) }
     ensures { Put words.old words.new (max from (j * 64)) (min end ((j + 1) * 64)) }
 {
-    words[j] = words[j] | mask(j * 64, from, end);
+    words[j] |= mask(j * 64, from, end);
 }
 
 // Marks sector `from` and those after it in its word.
@@ -118,7 +99,7 @@ fn put_first(words: &mut [u64], from: usize)
     requires { from < 64 * length words.old }
     ensures { Put words.old words.new from ((from / 64 + 1) * 64) }
 {
-    words[from / 64] = words[from / 64] | low_mask(from);
+    words[from / 64] |= low_mask(from);
 }
 
 // Marks the last sector below `end` and those before it in its word.
@@ -126,7 +107,7 @@ fn put_last(words: &mut [u64], end: usize)
     requires { (1 ≤ end) × (end ≤ 64 * length words.old) }
     ensures { Put words.old words.new ((end - 1) / 64 * 64) end }
 {
-    words[(end - 1) / 64] = words[(end - 1) / 64] | high_mask(end);
+    words[(end - 1) / 64] |= high_mask(end);
 }
 
 // Marks all sectors of the words first..stop.
@@ -134,11 +115,7 @@ fn put_whole(words: &mut [u64], first: usize, stop: usize)
     requires { (first ≤ stop) × (stop ≤ length words.old) }
     ensures { Put words.old words.new (first * 64) (stop * 64) }
 {
-    let mut j = first;
-    while j < stop {
-        words[j] = ALL;
-        j += 1;
-    }
+    words[first..stop].fill(ALL);
 }
 
 // Marks the run from..end, of a sector at least, whether or not it is free: its first word, whole words, its last word.
@@ -178,10 +155,7 @@ fn mark_two(words: &mut [u64], j: usize) -> bool
     requires { j + 2 ≤ length words.old }
     ensures { Marking words.old words.new (j * 64) ((j + 2) * 64) result }
 {
-    if words[j] != 0 {
-        return false;
-    }
-    if words[j + 1] != 0 {
+    if words[j] != 0 || words[j + 1] != 0 {
         return false;
     }
     words[j] = ALL;
@@ -195,10 +169,7 @@ pub fn mark(words: &mut [u64], from: usize, count: usize) -> bool
     requires { Room words.old from (from + count) }
     ensures { Marking words.old words.new from (from + count) result }
 {
-    if count != 128 {
-        return mark_run(&mut *words, from, count);
-    }
-    if from % 64 != 0 {
+    if count != 128 || from % 64 != 0 {
         return mark_run(&mut *words, from, count);
     }
     mark_two(&mut *words, from / 64)

@@ -4,7 +4,8 @@ use Rattle.base.specs.Bytes.{over}
 use Rattle.format.specs.Mend.{good_entry, other_entry, mended, changes, after_mend}
 use Rattle.format.specs.declared.Header.{Header}
 use Rattle.format.specs.declared.Entry.TheVariants.{Sector}
-use Rattle.format.specs.declared.MendAnswer.{MendAnswer}
+use Rattle.std.specs.Prelude.{Result}
+use Rattle.format.specs.declared.Refusal.{Refusal}
 
 -- n entries of the tables at sectors t and u lie in the image, apart from each other: where those of u begin before the end of
 -- those of t, they end before these begin
@@ -23,7 +24,8 @@ pub record TwoEntries (m : List ℕ) (g : Header) (all d : ℕ) : Type 0 where
       → TwoTables m (min g.entries_per_table (all - d * g.entries_per_table)) t u
 
 -- the answer is r; the image that held s holds x and the list that held l holds y, g being the header from the good side
-pub record MendTold (answer : MendAnswer) (s : List ℕ) (g : Header) (l : List ℕ) (r : MendAnswer) (x y : List ℕ) : Type 0 where
+pub record MendTold (answer : Result ℕ Refusal) (s : List ℕ) (g : Header) (l : List ℕ) (r : Result ℕ Refusal)
+    (x y : List ℕ) : Type 0 where
   pub told : r ≡ answer
   pub image : x ≡ after_mend answer (mended s g) s
   pub list : y ≡ after_mend answer (over l 0 (changes s g)) l

@@ -2,7 +2,7 @@
 use Prim.Native.Nat.{ℕ, ◌+◌, ◌*◌, ◌≤◌}
 use mathlib.Core.Path.{◌≡◌, refl, sym, ◌∙◌}
 use mathlib.Core.List.{List}
-use mathlib.Core.Bool.{Bool, true, false, true≢false}
+use mathlib.Core.Bool.{Bool, true, false, not, true≢false}
 use lib.ListN.{length}
 use Rattle.base.specs.Pick.{pick}
 use Rattle.format.specs.Areas.{areas, meet}
@@ -15,8 +15,7 @@ use Rattle.format.specs.Judged.{Filed, Sided}
 use Rattle.format.specs.declared.Header.{Header}
 use Rattle.format.specs.declared.Side.{Side}
 use Rattle.format.specs.declared.Entry.{Entry}
-use Rattle.format.specs.declared.Lowest.{Lowest}
-use Rattle.format.specs.declared.Lowest.TheVariants.{None, Grain}
+use Rattle.format.specs.declared.Entry.TheVariants.{Absent, Zero, Sector}
 use Rattle.format.proofs.Areas.{meet_apart}
 use Rattle.format.proofs.Entries.{some_no}
 use Rattle.format.proofs.Mendable.{not_refused, frame_apart, sided_placed, sided_two, sided_inside, accepted_unbroken}
@@ -28,6 +27,7 @@ use Rattle.format.proofs.ReadAlike.{Unbroken}
 use Rattle.base.proofs.Steps.{pick_both}
 use Rattle.overlap.specs.InFile.{InFile}
 use Rattle.mendable.specs.ChangedRefused.{unless_none, changed_refused}
+use Rattle.std.specs.Prelude.{Option, Some, None}
 
 -- ---- the law: of an image whose directories are alike in kind, 40 is 9, 10 and 12 from the good side
 same_no : (a b : Bool) → (a ≡ false → b ≡ false) → (b ≡ false → a ≡ false) → a ≡ b
@@ -36,10 +36,10 @@ same_no true false f g = g refl
 same_no false true f g = sym (f refl)
 same_no false false f g = refl
 
-unless_no : (l : Lowest) (rest : Bool) → unless_none l rest ≡ false → (l ≡ None) × (rest ≡ false)
+unless_no : (l : Option ℕ) (rest : Bool) → unless_none l rest ≡ false → (l ≡ None) × (rest ≡ false)
 unfolding unless_none
 unless_no None rest e = (refl, e)
-unless_no (Grain x) rest e = absurd (true≢false e)
+unless_no (Some x) rest e = absurd (true≢false e)
 
 module _ (s : List ℕ) (g : Header) (z : Sided s g) where
   unbroken_of : changed_refused s g ≡ false → Unbroken s g
@@ -83,8 +83,8 @@ module _ (s : List ℕ) (g : Header) (z : Sided s g) where
   pub other_room : (n : ℕ) → n ≡ directory_entries_of g → 512 * g.redundant + 4 * n ≤ length s
   other_room n e = copies_room s g (sided_placed s g z) n e (sided_two s g z)
 
-  module _ (l : Lowest) (e : l ≡ lowest_past s g) where
-    pub past_found : (x : ℕ) → l ≡ Grain x → true ≡ changed_refused s g
+  module _ (l : Option ℕ) (e : l ≡ lowest_past s g) where
+    pub past_found : (x : ℕ) → l ≡ Some x → true ≡ changed_refused s g
     unfolding changed_refused unless_none
     past_found x q = rw (← e, q)
 
@@ -113,11 +113,48 @@ module _ (s : List ℕ) (g : Header) (z : Sided s g) where
 pub side_as : (side v : Side) (h r : Header) → side ≡ v → r ≡ from_good v h → r ≡ from_good side h
 side_as side v h r e q = rw e q
 
-pub kinds_as : (a b v w : Entry) {r : Bool} → a ≡ v → b ≡ w → r ≡ kinds_differ v w → r ≡ kinds_differ a b
-kinds_as a b v w e q t = rw (e, q) t
+module _ (a b : Entry) {r : Bool} where
+  pub both_absent : a ≡ Absent → b ≡ Absent → r ≡ true → not r ≡ kinds_differ a b
+  unfolding kinds_differ
+  both_absent e q t = rw (e, q, t)
 
-module _ (l k : Lowest) (e : l ≡ k) (rest : Bool) where
-  pub marker_found : (x : ℕ) → l ≡ Grain x → true ≡ unless_none k rest
+  pub both_zero : a ≡ Zero → b ≡ Zero → r ≡ true → not r ≡ kinds_differ a b
+  unfolding kinds_differ
+  both_zero e q t = rw (e, q, t)
+
+  pub both_named : (t u : ℕ) → a ≡ Sector t → b ≡ Sector u → r ≡ true → not r ≡ kinds_differ a b
+  unfolding kinds_differ
+  both_named t u e q y = rw (e, q, y)
+
+  pub absent_alone : a ≡ Absent → (b ≡ Absent → ⊥) → r ≡ false → not r ≡ kinds_differ a b
+  unfolding kinds_differ
+  absent_alone e other f = rw (e, f) (alone b other)
+    where
+      alone : (b : Entry) → (b ≡ Absent → ⊥) → true ≡ kinds_differ Absent b
+      alone Absent other = absurd (other refl)
+      alone Zero other = refl
+      alone (Sector u) other = refl
+
+  pub zero_alone : a ≡ Zero → (b ≡ Zero → ⊥) → r ≡ false → not r ≡ kinds_differ a b
+  unfolding kinds_differ
+  zero_alone e other f = rw (e, f) (alone b other)
+    where
+      alone : (b : Entry) → (b ≡ Zero → ⊥) → true ≡ kinds_differ Zero b
+      alone Absent other = refl
+      alone Zero other = absurd (other refl)
+      alone (Sector u) other = refl
+
+  pub named_alone : (t : ℕ) → a ≡ Sector t → ((u : ℕ) → b ≡ Sector u → ⊥) → r ≡ false → not r ≡ kinds_differ a b
+  unfolding kinds_differ
+  named_alone t e other f = rw (e, f) (alone b other)
+    where
+      alone : (b : Entry) → ((u : ℕ) → b ≡ Sector u → ⊥) → true ≡ kinds_differ (Sector t) b
+      alone Absent other = refl
+      alone Zero other = refl
+      alone (Sector u) other = absurd (other u refl)
+
+module _ (l k : Option ℕ) (e : l ≡ k) (rest : Bool) where
+  pub marker_found : (x : ℕ) → l ≡ Some x → true ≡ unless_none k rest
   unfolding unless_none
   marker_found x q = rw (← e, q)
 

@@ -3,12 +3,11 @@ use Rattle.std.specs.Prelude.{ℕ, List, Bool, true}
 use Rattle.format.specs.Areas.{areas, meet}
 use Rattle.format.specs.Check.{lowest_past, lowest_bad_marker}
 use Rattle.format.specs.declared.Header.{Header}
-use Rattle.format.specs.declared.Lowest.{Lowest}
-use Rattle.format.specs.declared.Lowest.TheVariants.{None, Grain}
+use Rattle.std.specs.Prelude.{Option, Some, None}
 
-unfoldable pub unless_none : Lowest → Bool → Bool
+unfoldable pub unless_none : Option ℕ → Bool → Bool
 unless_none None rest = rest
-unless_none (Grain x) rest = true
+unless_none (Some x) rest = true
 
 -- 9, 10 and 12; 11 is mended
 unfoldable pub changed_refused : List ℕ → Header → Bool

@@ -11,7 +11,7 @@ ghost use Rattle.overlap.specs.InFile.{InFile};
 ghost use Rattle.mendable.specs.ChangedRefused.{unless_none, changed_refused};
 
 use entries::meaning_at;
-use format::{Entry, Header, Lowest, Side};
+use format::{Entry, Header, Refusal, Side};
 use sizes::directory_entries;
 
 // A header as read from the good side: its directory is the good one.
@@ -21,21 +21,9 @@ pub fn from_good(side: Side, h: Header) -> Header
     match side {
         Side::Primary => h,
         Side::Redundant => Header {
-            cowd: h.cowd,
-            capacity: h.capacity,
-            grain_size: h.grain_size,
-            header_sectors: h.header_sectors,
-            descriptor: h.descriptor,
-            descriptor_sectors: h.descriptor_sectors,
             directory: h.redundant,
-            directory_sectors: h.directory_sectors,
             redundant: h.directory,
-            entries_per_table: h.entries_per_table,
-            table_sectors: h.table_sectors,
-            one_is_zero: h.one_is_zero,
-            packed: h.packed,
-            footer: h.footer,
-            dirty: h.dirty,
+            ..h
         },
     }
 }
@@ -44,23 +32,12 @@ pub fn from_good(side: Side, h: Header) -> Header
 fn kinds_differ(good: Entry, other: Entry) -> bool
     ensures { result ≡ kinds_differ good other }
 {
-    match good {
-        Entry::Absent => match other {
-            Entry::Absent => false,
-            Entry::Zero => true,
-            Entry::Sector(_) => true,
-        },
-        Entry::Zero => match other {
-            Entry::Absent => true,
-            Entry::Zero => false,
-            Entry::Sector(_) => true,
-        },
-        Entry::Sector(_) => match other {
-            Entry::Absent => true,
-            Entry::Zero => true,
-            Entry::Sector(_) => false,
-        },
-    }
+    !matches!(
+        (good, other),
+        (Entry::Absent, Entry::Absent)
+            | (Entry::Zero, Entry::Zero)
+            | (Entry::Sector(_), Entry::Sector(_))
+    )
 }
 
 // The same of entry d of the two directories.
@@ -92,14 +69,7 @@ fn kinds_differ_below(
     ensures { result ≡ any_below (λ d. kinds_differ (meaning_at image.now one_is_zero directory d)
         (meaning_at image.now one_is_zero redundant d)) n }
 {
-    let mut d: u64 = 0;
-    while d < n {
-        if entry_kinds_differ(image, one_is_zero, directory, redundant, d) {
-            return true;
-        }
-        d += 1;
-    }
-    false
+    (0..n).any(|d| entry_kinds_differ(image, one_is_zero, directory, redundant, d))
 }
 
 // Whether the two directories hold 0, 1 or tables in different places.
@@ -118,8 +88,8 @@ fn markers_refused(image: &[u8], g: Header) -> bool
 {
     let lowest = grains::lowest_bad_marker(image, g);
     match lowest {
-        Lowest::Grain(_) => true,
-        Lowest::None => order::areas_meet(image, g),
+        Some(_) => true,
+        None => order::areas_meet(image, g),
     }
 }
 
@@ -130,8 +100,8 @@ fn changed_refused(image: &[u8], g: Header) -> bool
 {
     let lowest = grains::lowest_past(image, g);
     match lowest {
-        Lowest::Grain(_) => true,
-        Lowest::None => markers_refused(image, g),
+        Some(_) => true,
+        None => markers_refused(image, g),
     }
 }
 

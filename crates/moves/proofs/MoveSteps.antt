@@ -2,8 +2,7 @@
 use Prim.Native.Nat.{ℕ, ◌≤◌, ◌<◌}
 use mathlib.Core.Path.{◌≡◌, refl, sym, ◌∙◌}
 use mathlib.Core.List.{List}
-use mathlib.Core.Bool.{Bool, true, false, not, ◌||◌}
-use lib.Dec.{ltb}
+use mathlib.Core.Bool.{Bool, true, false}
 use borrow.Author.Tests.{lt-ltb, le-ltb}
 use Rattle.base.specs.Pick.{pick}
 use Rattle.base.proofs.Steps.{or_no}
@@ -18,13 +17,13 @@ use Rattle.format.specs.declared.Kind.{Kind}
 use Rattle.format.specs.declared.Header.{Header}
 use Rattle.format.specs.declared.Entry.{Entry}
 use Rattle.format.specs.declared.Refusal.TheVariants.{NotCollapsible, StillOpen, NotMovable}
-use Rattle.format.specs.declared.CollapseAnswer.{CollapseAnswer}
-use Rattle.format.specs.declared.CollapseAnswer.TheVariants.{Refused}
 use Rattle.layers.specs.TwoLayers.{Readable, Layers, image_of, length_of}
 use Rattle.accept.specs.AcceptedHeader.{Checked}
 use Rattle.collapse.specs.Answered.{Answered}
 use Rattle.collapse.proofs.Checks.{readable}
 use Rattle.collapse.proofs.CollapseSteps.{refused_here, not_here, merge_same}
+use Rattle.std.specs.Prelude.{Result, Err}
+use Rattle.format.specs.declared.Refusal.{Refusal}
 
 -- ---- at the arms of a match
 pub taken_as : (z : Bool) (kind other : Kind) (h : Header) → kind ≡ other → z ≡ not_taken other h → z ≡ not_taken kind h
@@ -53,24 +52,24 @@ module _ (kind : Kind) (s : List ℕ) (h : Header) where
 pub itself : (s : List ℕ) (h : Header) → Readable s h → Layers s h s h
 itself s h r = record { below = r; above = r; capacity = refl; size = refl }
 
-pub fitted_as : (kind : Kind) (s : List ℕ) (h : Header) (room : ℕ) {d y : List ℕ} {r : CollapseAnswer}
+pub fitted_as : (kind : Kind) (s : List ℕ) (h : Header) (room : ℕ) {d y : List ℕ} {r : Result ℕ Refusal}
     → Answered (written_if_room room (length_of kind s h s h)) (image_of kind s h s h) d r y
     → Answered (written_if_room room (laid_length_as kind h (grain_map s h))) (laid_as kind h (grain_map s h)) d r y
 fitted_as kind s h room p = rw (merge_same (grain_map s h)) at p
 
 -- ---- 23, 27, and what comes after them
 module _ (kind : Kind) (s : List ℕ) (h : Header) (room : ℕ) (image d : List ℕ) {a : Bool} (e : a ≡ not_taken kind h) where
-  pub not_taken_lem : a ≡ true → Answered (move_from kind s h (grain_map s h) room) image d (Refused NotCollapsible) d
+  pub not_taken_lem : a ≡ true → Answered (move_from kind s h (grain_map s h) room) image d (Err NotCollapsible) d
   unfolding move_from
   not_taken_lem t = refused_here NotCollapsible _ image d e t
 
   module _ (n : a ≡ false) {b : Bool} (o : b ≡ still_open h) where
-    pub not_clean : b ≡ true → Answered (move_from kind s h (grain_map s h) room) image d (Refused StillOpen) d
+    pub not_clean : b ≡ true → Answered (move_from kind s h (grain_map s h) room) image d (Err StillOpen) d
     unfolding move_from
     not_clean t = not_here NotCollapsible _ image d e n (refused_here StillOpen _ image d o t)
 
-    pub then_sized : b ≡ false → {r : CollapseAnswer} {y : List ℕ}
-        → Answered (pick (not_movable kind s h) (Refused NotMovable)
+    pub then_sized : b ≡ false → {r : Result ℕ Refusal} {y : List ℕ}
+        → Answered (pick (not_movable kind s h) (Err NotMovable)
         (written_if_room room (laid_length_as kind h (grain_map s h))))
         image d r y
         → Answered (move_from kind s h (grain_map s h) room) image d r y
@@ -83,7 +82,7 @@ pub read_taken : (kind : Kind) (s : List ℕ) (h : Header) {a : Bool} → Checke
 read_taken kind s h c e n = readable s h c (or_no (is_kind kind h) h.packed (sym e ∙ n)).1
 
 -- the image's header is the one that its bytes tell
-pub moved_as : (kind : Kind) (s : List ℕ) (h : Header) → Checked s h → (room : ℕ) {d y : List ℕ} {r : CollapseAnswer}
+pub moved_as : (kind : Kind) (s : List ℕ) (h : Header) → Checked s h → (room : ℕ) {d y : List ℕ} {r : Result ℕ Refusal}
     → Answered (move_from kind s h (grain_map s h) room) (laid_as kind h (grain_map s h)) d r y
     → Answered (move_from kind s (header_of s) (map_of s) room) (form_as kind s) d r y
 moved_as kind s h c room p = rw c.is at p

@@ -1,3 +1,4 @@
 pub mod Marked
+pub mod Taken
 pub mod Named
 pub mod NamedGrains

@@ -1,15 +1,15 @@
 -- A loop that marks row after row: what is done so far is a run that met nothing.
-use Prim.Native.Nat.{ℕ, ◌+◌, ◌-◌, ◌≤◌, ◌<◌}
+use Prim.Native.Nat.{ℕ, ◌+◌, ◌-◌, ◌≤◌}
 use mathlib.Core.Path.{◌≡◌, refl, ◌∙◌}
 use mathlib.Core.List.{List}
 use mathlib.Core.Bool.{Bool, true, false}
 use native.Mathlib.Omega.{arith}
 use lib.ListN.{length}
 use Rattle.base.specs.Rows.{rows}
-use Rattle.base.proofs.Rows.{rows_split, row_alone}
+use Rattle.base.proofs.Rows.{rows_split}
 use Rattle.format.specs.Areas.{Area}
 use Rattle.window.specs.Run.{Run, done}
-use Rattle.window.proofs.RunLaws.{run_length, run_more, run_stop}
+use Rattle.window.specs.TakenRuns.{run_length, run_more, run_stop}
 
 -- the areas l are marked, and none met a sector that was
 pub record Marked (lo : ℕ) (ws₀ : List ℕ) (l : List Area) (ws : List ℕ) : Type 0 where
@@ -32,14 +32,3 @@ module _ (lo : ℕ) (ws₀ : List ℕ) (p : ℕ → List Area) where
     met_rows n h e =
         let q : n ≡ base + last + (n - (base + last)) = omega arith in
         rw (q, rows_split (base + last) _ p, rows_split base last p, same) (run_stop _ (run_more m.run refl g) e)
-
-  -- ---- the next row
-  module _ (ws xs : List ℕ) (k : ℕ) (r : Bool) (m : Marked lo ws₀ (rows k p) ws) (g : Run lo ws (p k) xs r) where
-    pub marked_more : r ≡ false → Marked lo ws₀ (rows (k + 1) p) xs
-    marked_more e = marked_rows ws xs k 1 (p k) r m (row_alone p k) g e
-
-    pub marked_met : (n : ℕ) → k < n → r ≡ true → Run lo ws₀ (rows n p) xs true
-    marked_met n h e = met_rows ws xs k 1 (p k) r m (row_alone p k) g n (omega arith) e
-
-  pub marked_all : (ws : List ℕ) (k n : ℕ) → Marked lo ws₀ (rows k p) ws → k ≤ n → n ≤ k → Run lo ws₀ (rows n p) ws false
-  marked_all ws k n m l h = let q : n ≡ k = omega arith in rw q m.run

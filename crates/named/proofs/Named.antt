@@ -1,7 +1,7 @@
 -- What entries name, each premise as the code gives it.
 use Prim.Native.Nat.{ℕ, zero, suc, ◌+◌, ◌-◌, ◌*◌, ◌≤◌, ◌<◌, ◌^◌, min}
-use mathlib.Core.Path.{◌≡◌, refl, sym}
-use mathlib.Core.List.{List, [], ◌∷◌}
+use mathlib.Core.Path.{◌≡◌, refl, sym, ◌∙◌}
+use mathlib.Core.List.{List, [], ◌∷◌, append-nil}
 use mathlib.Core.Bool.{Bool, true, false}
 use native.Mathlib.Omega.{arith}
 use lib.Dec.{ltb}
@@ -9,7 +9,7 @@ use lib.ListN.{length}
 use borrow.Author.Tests.{lt-ltb, le-ltb, ne_eqb}
 use Rattle.base.specs.Pick.{pick}
 use Rattle.base.specs.Rows.{rows}
-use Rattle.base.proofs.Rows.{rows_none, rows_same}
+use Rattle.base.proofs.Rows.{rows_none, rows_same, rows_split}
 use Rattle.format.specs.Geometry.{file_sectors}
 use Rattle.format.specs.Entries.{entry_at, meaning, meaning_at, grain_sectors}
 use Rattle.format.specs.Areas.{Area, area, named, table_areas, runs_past}
@@ -21,7 +21,6 @@ use Rattle.window.specs.Run.{Run, done}
 use Rattle.named.specs.Named.{least_sector, entry_area, entry_areas, table_grains}
 use Rattle.named.specs.Listed.{Listed}
 use Rattle.blocks.specs.Blocks.{Passed}
-use Rattle.named.proofs.Marked.{Marked, marked_rows, met_rows}
 
 -- an entry names nothing below the lowest that is a sector, and else its sector
 pub by_least : (f : Entry → List Area) → f Absent ≡ [] → f Zero ≡ [] → (b : Bool) (e : ℕ)
@@ -80,16 +79,12 @@ module _ (s : List ℕ) (least : ℕ) (packed : Bool) (size t k e : ℕ) (eq : e
       pub entry_end : (n : ℕ) → n ≡ grain_sectors s packed size e → length s < 2 ^ 64 → e + n < 2 ^ 64
       entry_end n z fit = omega (arith, entry_ends)
 
-  module _ (lo : ℕ) (ws : List ℕ) where
-    pub entry_none : e < least → Run lo ws (entry_area s least packed size t k) ws false
-    unfolding entry_area pick
-    entry_none h = rw (← eq, lt-ltb e least h) done
+  pub area_none : e < least → entry_area s least packed size t k ≡ []
+  area_none h = no_area s least packed size t k (rw eq at h)
 
-    pub entry_some : (n : ℕ) (xs : List ℕ) (r : Bool) → least ≤ e → n ≡ grain_sectors s packed size e
-        → Run lo ws (area e n ∷ []) xs r
-        → Run lo ws (entry_area s least packed size t k) xs r
-    unfolding entry_area pick
-    entry_some n xs r h z g = rw (← eq, le-ltb e least h, ← z) g
+  pub area_one : (n : ℕ) → least ≤ e → n ≡ grain_sectors s packed size e → entry_area s least packed size t k ≡ area e n ∷ []
+  unfolding entry_area pick
+  area_one n h z = rw (← eq, le-ltb e least h, ← z)
 
 -- what a turn of the loop over entries asks
 pub entry_inside : (s : List ℕ) (least : ℕ) (packed : Bool) (size t n k : ℕ) → Listed s least packed size t n → k < n
@@ -116,25 +111,11 @@ zeros_name s least packed size t j n k one p = rows_none (k - j) _ none
         let z : entry_at s t (j + i) ≡ 0 = p.zeros (j + i) (omega arith) (omega arith) in
         no_area s least packed size t (j + i) (omega (arith, z))
 
-pub zeros_marked : (lo : ℕ) (ws₀ ws s : List ℕ) (least : ℕ) (packed : Bool) (size t j n k : ℕ) → 1 ≤ least
-    → Marked lo ws₀ (rows j (entry_area s least packed size t)) ws → Passed s t j n k
-    → Marked lo ws₀ (rows k (entry_area s least packed size t)) ws
-zeros_marked lo ws₀ ws s least packed size t j n k one m p =
+pub zeros_rows : (s : List ℕ) (least : ℕ) (packed : Bool) (size t j n k : ℕ) → 1 ≤ least → Passed s t j n k
+    → rows k (entry_area s least packed size t) ≡ rows j (entry_area s least packed size t)
+zeros_rows s least packed size t j n k one p =
     let q : k ≡ j + (k - j) = omega (arith, p.low) in
-    rw q (marked_rows lo ws₀ _ ws ws j (k - j) [] false m (zeros_name s least packed size t j n k one p) done refl)
-
--- the loop over blocks: a turn passes over zeros, then marks the entries after them
-module _ (lo : ℕ) (ws₀ ws xs s : List ℕ) (least : ℕ) (packed : Bool) (size t n k from count : ℕ) (r : Bool) (one : 1 ≤ least)
-    (m : Marked lo ws₀ (rows k (entry_area s least packed size t)) ws) (p : Passed s t k n from)
-    (g : Run lo ws (rows count (λ i. entry_area s least packed size t (from + i))) xs r) where
-  pub run_more : r ≡ false → Marked lo ws₀ (rows (from + count) (entry_area s least packed size t)) xs
-  run_more f =
-      marked_rows lo ws₀ _ ws xs from count _ r (zeros_marked lo ws₀ ws s least packed size t k n from one m p) refl g f
-
-  pub run_met : count ≡ min 16 (n - from) → r ≡ true → Run lo ws₀ (rows n (entry_area s least packed size t)) xs true
-  run_met e f =
-      met_rows lo ws₀ _ ws xs from count _ r (zeros_marked lo ws₀ ws s least packed size t k n from one m p) refl g n
-      (omega (arith, p.high)) f
+    rw q (rows_split j (k - j) _ ∙ rw (zeros_name s least packed size t j n k one p) (append-nil _))
 
 -- the entries of a block are among those that are listed
 pub listed_run : (s : List ℕ) (least : ℕ) (packed : Bool) (size t n from count : ℕ) → Listed s least packed size t n → from ≤ n

@@ -8,7 +8,8 @@ use lib.Dec.{ltb}
 use lib.ListN.{length}
 use Rattle.base.specs.Pick.{pick}
 use Rattle.base.specs.Rows.{rows}
-use Rattle.base.proofs.Rounding.{next_base}
+use Rattle.base.specs.Rounding.{ceil}
+use Rattle.base.proofs.Rounding.{next_base, below_ceil, ceil_covers}
 use Rattle.base.proofs.Rows.{rows_none, rows_same}
 use Rattle.format.specs.Entries.{entry_at, in_table, grain_sectors}
 use Rattle.format.specs.Areas.{Area, named}
@@ -45,62 +46,50 @@ module _ (s : List ℕ) (b packed : Bool) (least size per_table directory base d
       ∙ pick_rows (ltb (entry_at s directory d) least) (λ k. []) (entry_area s least packed size (entry_at s directory d)) n
       ∙ rw (rows_none n (λ k. []) (λ k l. refl))
 
--- ---- a loop over tables, as it comes to directory entry d, whose first grain is `base`
-pub record Turn (b : Bool) (per_table least d base : ℕ) : Type 0 where
-  pub lowest : least ≡ least_sector b
-  pub few : d ≤ base
-  pub at : base ≡ d * per_table
+-- ---- a loop over tables, as it comes to directory entry d, whose first grain is d * per_table: what a turn asks
+module _ (s : List ℕ) (b packed : Bool) (size per_table directory all least d : ℕ) (q : least ≡ least_sector b)
+    (g : Grained s b packed size per_table directory all) (n : ℕ) (en : n ≡ ceil all per_table) (l : d < n) where
+  pub turn_used : d * per_table < all
+  turn_used = below_ceil all per_table g.some d (omega arith)
 
-pub turn_start : (b : Bool) (per_table least : ℕ) → least ≡ least_sector b → Turn b per_table least 0 0
-turn_start b per_table least q = record { lowest = q; few = omega arith; at = omega arith }
-
-pub turn_next : (b : Bool) (per_table least d base : ℕ) → Turn b per_table least d base → 1 ≤ per_table
-    → Turn b per_table least (d + 1) (base + per_table)
-turn_next b per_table least d base i one =
-    record { lowest = i.lowest; few = omega (arith, i.few); at = next_base base d per_table i.at }
-
--- what a turn asks
-module _ (s : List ℕ) (b packed : Bool) (size per_table directory all least d base : ℕ) (i : Turn b per_table least d base)
-    (used : base < all) (g : Grained s b packed size per_table directory all) where
   pub turn_entry : 512 * directory + 4 * d + 4 ≤ length s
-  turn_entry = g.entry d (rw i.at at used)
+  turn_entry = g.entry d turn_used
 
-  pub turn_table : (last : ℕ) → last ≡ min per_table (all - base) → least ≤ entry_at s directory d
+  pub turn_table : (last : ℕ) → last ≡ min per_table (all - d * per_table) → least ≤ entry_at s directory d
       → Listed s least packed size (entry_at s directory d) last
-  turn_table last el h = rw (el, i.at, i.lowest) (g.table d (rw i.at at used) (rw i.lowest at h))
+  turn_table last el h = rw (el, q) (g.table d turn_used (rw q at h))
 
 -- ---- the loop that marks them
-module _ (lo : ℕ) (ws₀ s : List ℕ) (b packed : Bool) (size per_table directory all least : ℕ) where
-  -- the tables before d are marked, whose grains are those below `base`
-  pub record Tables (ws : List ℕ) (d base : ℕ) : Type 0 where
-    pub turn : Turn b per_table least d base
-    pub marked : Marked lo ws₀ (rows (min base all) (grain_named s b packed size per_table directory)) ws
+module _ (lo : ℕ) (ws₀ s : List ℕ) (b packed : Bool) (size per_table directory all : ℕ) where
+  -- the tables before d are marked
+  pub record Tables (ws : List ℕ) (d : ℕ) : Type 0 where
+    pub marked : Marked lo ws₀ (rows (min (d * per_table) all) (grain_named s b packed size per_table directory)) ws
 
-  pub tables_start : least ≡ least_sector b → Tables ws₀ 0 0
-  tables_start q =
-      let z : min 0 all ≡ 0 = omega arith in
-      record { turn = turn_start b per_table least q; marked = rw z (marked_start lo ws₀ _) }
+  pub tables_start : Tables ws₀ 0
+  tables_start = let z : min (0 * per_table) all ≡ 0 = omega arith in record { marked = rw z (marked_start lo ws₀ _) }
 
-  module _ (ws : List ℕ) (d base last : ℕ) (i : Tables ws d base) (used : base < all) (el : last ≡ min per_table (all - base))
-      (xs : List ℕ) (r : Bool) (g : Run lo ws (table_grains s least packed size directory d last) xs r) where
-    so_far : Marked lo ws₀ (rows base (grain_named s b packed size per_table directory)) ws
-    so_far = let z : min base all ≡ base = omega arith in rw z at i.marked
+  module _ (ws : List ℕ) (d last least : ℕ) (i : Tables ws d) (q : least ≡ least_sector b) (used : d * per_table < all)
+      (el : last ≡ min per_table (all - d * per_table)) (xs : List ℕ) (r : Bool)
+      (g : Run lo ws (table_grains s least packed size directory d last) xs r) where
+    so_far : Marked lo ws₀ (rows (d * per_table) (grain_named s b packed size per_table directory)) ws
+    so_far = let z : min (d * per_table) all ≡ d * per_table = omega arith in rw z at i.marked
 
-    same : rows last (λ k. grain_named s b packed size per_table directory (base + k))
+    same : rows last (λ k. grain_named s b packed size per_table directory (d * per_table + k))
         ≡ table_grains s least packed size directory d last
-    same = sector_v_lem s b packed least size per_table directory base d i.turn.lowest i.turn.at last (omega arith)
+    same = sector_v_lem s b packed least size per_table directory (d * per_table) d q refl last (omega arith)
 
-    pub tables_more : 1 ≤ per_table → r ≡ false → Tables xs (d + 1) (base + per_table)
-    tables_more one f =
-        let z : min (base + per_table) all ≡ base + last = omega arith in
-        record {
-          turn = turn_next b per_table least d base i.turn one;
-          marked = rw z (marked_rows lo ws₀ _ ws xs base last _ r so_far same g f);
-        }
+    pub tables_more : r ≡ false → Tables xs (d + 1)
+    tables_more f =
+        let z : min ((d + 1) * per_table) all ≡ d * per_table + last =
+        omega (arith, next_base (d * per_table) d per_table refl) in
+        record { marked = rw z (marked_rows lo ws₀ _ ws xs (d * per_table) last _ r so_far same g f) }
 
     pub tables_met : r ≡ true → Run lo ws₀ (rows all (grain_named s b packed size per_table directory)) xs true
-    tables_met f = met_rows lo ws₀ _ ws xs base last _ r so_far same g all (omega arith) f
+    tables_met f = met_rows lo ws₀ _ ws xs (d * per_table) last _ r so_far same g all (omega arith) f
 
-  pub tables_all : (ws : List ℕ) (d base : ℕ) → Tables ws d base → all ≤ base
+  pub tables_all : (ws : List ℕ) (d n : ℕ) → Tables ws d → 1 ≤ per_table → n ≡ ceil all per_table → n ≤ d → d ≤ n
       → Run lo ws₀ (rows all (grain_named s b packed size per_table directory)) ws false
-  tables_all ws d base i h = let z : min base all ≡ all = omega arith in rw z at i.marked.run
+  tables_all ws d n i some e h l =
+      let q : d ≡ ceil all per_table = omega arith in
+      let z : min (d * per_table) all ≡ all = rw q (omega (arith, ceil_covers all per_table some)) in
+      rw z at i.marked.run

@@ -13,7 +13,7 @@ ghost use Rattle.named.specs.Listed.{Listed, Grained};
 use blocks::{block_entries, past_zeros};
 use entries::{entry_at, grain_sectors};
 use sizes::entries_in_use;
-use window::mark_area;
+use window::{Marks, Taker};
 
 // The lowest entry that is a sector.
 pub fn least_sector(one_is_zero: bool) -> u64
@@ -25,10 +25,9 @@ pub fn least_sector(one_is_zero: bool) -> u64
     1
 }
 
-// Marks what entry k of the directory or table at sector t names.
-fn mark_entry(
-    words: &mut [u64],
-    lo: u64,
+// Takes what entry k of the directory or table at sector t names.
+fn take_entry<T: Taker>(
+    taker: &mut T,
     image: &[u8],
     least: u64,
     packed: bool,
@@ -36,22 +35,21 @@ fn mark_entry(
     t: u64,
     k: u64,
 ) -> bool
-    requires counted { Counted words.old × (512 * t + 4 * k + 4 ≤ length image.now) × (1 ≤ size) }
+    requires ready { T.ready taker.old × (512 * t + 4 * k + 4 ≤ length image.now) × (1 ≤ size) }
     requires k_value { runs_past (file_sectors image.now) (entry_area image.now least packed size t k) ≡ false }
-    ensures { Run lo words.old (entry_area image.now least packed size t k) words.new result }
+    ensures { T.ready taker.new × T.takes taker.old (entry_area image.now least packed size t k) taker.new result }
 {
     let e = entry_at(image, t, k);
     if e < least {
         return false;
     }
     let sectors = grain_sectors(image, packed, size, e);
-    mark_area(&mut *words, lo, e, sectors)
+    taker.take(e, sectors)
 }
 
-// Marks what the `count` entries from `from` on name.
-fn mark_run(
-    words: &mut [u64],
-    lo: u64,
+// Takes what the `count` entries from `from` on name.
+fn take_run<T: Taker>(
+    taker: &mut T,
     image: &[u8],
     least: u64,
     packed: bool,
@@ -60,24 +58,21 @@ fn mark_run(
     from: u64,
     count: u64,
 ) -> bool
-    requires { Counted words.old × Listed image.now least packed size t (from + count) }
-    ensures { Run lo words.old (rows count (λ i. entry_area image.now least packed size t (from + i)))
-        words.new result }
+    requires { T.ready taker.old × Listed image.now least packed size t (from + count) }
+    ensures { T.ready taker.new × T.takes taker.old (rows count (λ i. entry_area image.now least packed size t (from + i)))
+        taker.new result }
 {
-    let mut i: u64 = 0;
-    while i < count {
-        if mark_entry(&mut *words, lo, image, least, packed, size, t, from + i) {
+    for i in 0..count {
+        if take_entry(&mut *taker, image, least, packed, size, t, from + i) {
             return true;
         }
-        i += 1;
     }
     false
 }
 
-// Marks what the first n entries name, a block at a time: blocks of zeros name nothing.
-fn mark_entries(
-    words: &mut [u64],
-    lo: u64,
+// Takes what the first n entries name, a block at a time: blocks of zeros name nothing.
+pub fn take_entries<T: Taker>(
+    taker: &mut T,
     image: &[u8],
     least: u64,
     packed: bool,
@@ -85,14 +80,15 @@ fn mark_entries(
     t: u64,
     n: u64,
 ) -> bool
-    requires { Counted words.old × (1 ≤ least) × Listed image.now least packed size t n }
-    ensures { Run lo words.old (entry_areas image.now least packed size t n) words.new result }
+    requires { T.ready taker.old × (1 ≤ least) × Listed image.now least packed size t n }
+    ensures { T.ready taker.new × T.takes taker.old (entry_areas image.now least packed size t n) taker.new result }
 {
     let mut k: u64 = 0;
+    // Leaps over blocks of zeros, which no range does.
     while k < n {
         let from = past_zeros(image, t, k, n);
         let count = block_entries(from, n);
-        if mark_run(&mut *words, lo, image, least, packed, size, t, from, count) {
+        if take_run(&mut *taker, image, least, packed, size, t, from, count) {
             return true;
         }
         k = from + count;
@@ -115,7 +111,11 @@ pub fn mark_tables(
         result }
 {
     let least = least_sector(one_is_zero);
-    mark_entries(&mut *words, lo, image, least, false, sectors, directory, n)
+    let mut marks = Marks {
+        words: &mut *words,
+        lo,
+    };
+    take_entries(&mut marks, image, least, false, sectors, directory, n)
 }
 
 // Marks the first n grains of directory entry d.
@@ -140,7 +140,11 @@ fn mark_table_grains(
     if t < least {
         return false;
     }
-    mark_entries(&mut *words, lo, image, least, packed, size, t, n)
+    let mut marks = Marks {
+        words: &mut *words,
+        lo,
+    };
+    take_entries(&mut marks, image, least, packed, size, t, n)
 }
 
 // Marks all grains, table by table. Entries past the last grain are not read.
@@ -160,9 +164,7 @@ pub fn mark_grains(
         directory)) words.new result }
 {
     let least = least_sector(one_is_zero);
-    let mut d: u64 = 0;
-    let mut base: u64 = 0;
-    while base < all {
+    for d in 0..base::ceil_div(all, per_table) {
         if mark_table_grains(
             &mut *words,
             lo,
@@ -172,12 +174,10 @@ pub fn mark_grains(
             size,
             directory,
             d,
-            entries_in_use(per_table, all - base),
+            entries_in_use(per_table, all - d * per_table),
         ) {
             return true;
         }
-        d += 1;
-        base += per_table;
     }
     false
 }

@@ -28,7 +28,7 @@ use Rattle.overlap.specs.declared.Walk.{Walk}
 use Rattle.ascent.specs.Ascend.{span}
 use Rattle.ascent.specs.declared.Stretch.{Stretch}
 use Rattle.named.specs.Listed.{Listed, Grained}
-use Rattle.window.proofs.RunLaws.{run_more, run_stop}
+use Rattle.window.specs.TakenRuns.{run_more, run_stop}
 use Rattle.named.proofs.Named.{tables_named, entry_ends, entry_inside}
 use Rattle.named.proofs.NamedGrains.{grain_at_lem}
 

@@ -213,13 +213,6 @@ pub fn windows_meet(image: &[u8], h: Header, walk: Walk) -> bool
     requires { InFile image.now h × (runs_past (file_sectors image.now) (walked image.now h walk) ≡ false) }
     ensures { result ≡ meet (walked image.now h walk) }
 {
-    let sectors = file_sectors(image);
-    let mut lo: u64 = 0;
-    while lo < sectors {
-        if window_meets(image, lo, h, walk) {
-            return true;
-        }
-        lo += 8388608;
-    }
-    false
+    let windows = base::ceil_div(file_sectors(image), 8388608);
+    (0..windows).any(|w| window_meets(image, 8388608 * w, h, walk))
 }

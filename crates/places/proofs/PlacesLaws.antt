@@ -1,22 +1,19 @@
 -- What judging 8 asks on its way, each premise as the code gives it.
-use Prim.Native.Nat.{ℕ, ◌+◌, ◌*◌, ◌≤◌}
+use Prim.Native.Nat.{ℕ, ◌+◌}
 use mathlib.Core.Path.{◌≡◌, refl, sym, ◌∙◌}
 use mathlib.Core.List.{List}
 use mathlib.Core.Bool.{Bool, false}
-use native.Mathlib.Omega.{arith}
 use lib.Dec.{ltb}
-use lib.ListN.{length}
 use borrow.Author.Tests.{eq-eqb, ne_eqb}
 use Rattle.base.specs.Pick.{pick}
 use Rattle.format.specs.Geometry.{file_sectors}
 use Rattle.format.specs.Header.{directory_entries_of}
 use Rattle.format.specs.Areas.{area, if_there, named, table_areas, redundant_tables, runs_past}
-use Rattle.format.specs.Check.{directory_misplaced, redundant_directory_misplaced, redundant_tables_misplaced}
+use Rattle.format.specs.Check.{redundant_directory_misplaced, redundant_tables_misplaced}
 use Rattle.format.specs.declared.Header.{Header}
 use Rattle.format.specs.declared.Entry.TheVariants.{Absent, Zero, Sector}
 use Rattle.format.proofs.Inside.{past_one}
-use Rattle.format.proofs.Places.{directory_in, redundant_in, redundant_tables_lem}
-use Rattle.format.specs.Judged.{Sound}
+use Rattle.format.proofs.Places.{redundant_tables_lem}
 
 -- ---- the area that an entry or a header names
 module _ (f sectors : ℕ) where

@@ -43,8 +43,7 @@ fn named_past(image: &[u8], sectors: u64, entry: Entry) -> bool
     ensures { result ≡ runs_past (file_sectors image.now) (named (λ e. sectors) entry) }
 {
     match entry {
-        Entry::Absent => false,
-        Entry::Zero => false,
+        Entry::Absent | Entry::Zero => false,
         Entry::Sector(t) => table_past(image, t, sectors),
     }
 }
@@ -64,14 +63,7 @@ fn tables_past(image: &[u8], one_is_zero: bool, sectors: u64, directory: u64, n:
     ensures { result ≡ runs_past (file_sectors image.now)
         (table_areas image.now one_is_zero sectors directory n) }
 {
-    let mut d: u64 = 0;
-    while d < n {
-        if entry_past(image, one_is_zero, sectors, directory, d) {
-            return true;
-        }
-        d += 1;
-    }
-    false
+    (0..n).any(|d| entry_past(image, one_is_zero, sectors, directory, d))
 }
 
 // The tables of the primary directory, which lies in the file.

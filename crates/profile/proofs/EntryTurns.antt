@@ -15,7 +15,6 @@ use Rattle.format.specs.Layout.{table_count, tables_at, tables_end, header_bytes
 use Rattle.format.specs.declared.Kind.TheVariants.{Kdmv}
 use Rattle.format.specs.declared.Header.{Header}
 use Rattle.format.specs.declared.Refusal.TheVariants.{NotNormal}
-use Rattle.format.specs.declared.CheckAnswer.TheVariants.{Refused}
 use Rattle.format.proofs.Lengths.{header_length}
 use Rattle.layout.proofs.PartSizes.{directory_fits}
 use Rattle.laws.proofs.LayoutBack.{table_stands}
@@ -25,6 +24,7 @@ use Rattle.profile.proofs.Parts.{part_same, part_other}
 use Rattle.profile.proofs.LaidFront.{directory_unused, tables_inside}
 use Rattle.profile.proofs.Stages.{sizes, image_long, form_header, header_as, laid_readable}
 use Rattle.profile.proofs.Stages.{directory_inside}
+use Rattle.std.specs.Prelude.{Err}
 
 module _ {n : ℕ} {s : List ℕ} {h : Header} (a : AlikeTo n s h) where
   pub alike_as : (k : ℕ) → n ≡ k → AlikeTo k s h
@@ -37,7 +37,7 @@ module _ {n : ℕ} {s : List ℕ} {h : Header} (a : AlikeTo n s h) where
       alike_on l =
           record { published = a.published; same = part_same s (form_of s h) n w stands a.same r f end e l }
 
-      pub alike_not : r < end → end ≤ length s → Refused (NotNormal r) ≡ compared s h
+      pub alike_not : r < end → end ≤ length s → Err (NotNormal r) ≡ compared s h
       alike_not l room = part_other s (form_of s h) n w stands a.same r f h end e l room
 
   -- ---- what is alike up to an earlier place
@@ -64,7 +64,7 @@ module _ {s : List ℕ} {h : Header} (p : Published s h) (d x : List ℕ) (r : �
       alike_on start _ (form_header s h p) r (header_as s h p d x r e l f) 512
       (omega (arith, header_length Kdmv h.capacity h.grain_size 0)) b
 
-  pub header_not : r < 512 → Refused (NotNormal r) ≡ compared s h
+  pub header_not : r < 512 → Err (NotNormal r) ≡ compared s h
   header_not b =
       alike_not start _ (form_header s h p) r (header_as s h p d x r e l f) 512
       (omega (arith, header_length Kdmv h.capacity h.grain_size 0)) b (image_long s h p)
@@ -79,7 +79,7 @@ module _ {s : List ℕ} {h : Header} (n d first r : ℕ) (a : AlikeTo (512 + 4 *
   pub table_on : 512 + 4 * d + 4 ≤ r → AlikeTo (512 + 4 * (d + 1)) s h
   table_on b = alike_on a _ table_there r f _ (le_ends _ 4 (first + 4 * d) _ (omega arith)) (omega arith)
 
-  pub table_not : r < 512 + 4 * d + 4 → Refused (NotNormal r) ≡ compared s h
+  pub table_not : r < 512 + 4 * d + 4 → Err (NotNormal r) ≡ compared s h
   table_not b =
       alike_not a _ table_there r f (512 + 4 * d + 4) (le_ends _ 4 (first + 4 * d) _ refl) b
       (omega (arith, directory_room a (omega arith)))
@@ -108,6 +108,6 @@ module _ {s : List ℕ} {h : Header} (n first r : ℕ) (a : AlikeTo (512 + 4 * t
           (alike_on upto _ unused_there r f (512 * first) (zeros_ends _ _ _ (omega (arith, unused_fits.0))) b) _
           (ap (λ (k : ℕ). 512 * k) e)
 
-      pub unused_not : r < 512 * first → Refused (NotNormal r) ≡ compared s h
+      pub unused_not : r < 512 * first → Err (NotNormal r) ≡ compared s h
       unused_not b =
           alike_not upto _ unused_there r f (512 * first) (zeros_ends _ _ _ (omega (arith, unused_fits.0))) b unused_fits.1

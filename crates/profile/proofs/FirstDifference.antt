@@ -13,7 +13,8 @@ use Rattle.base.specs.Bytes.{SameBytes}
 use Rattle.format.specs.Profile.{same_file, first_difference, profile_form}
 use Rattle.format.specs.declared.Header.{Header}
 use Rattle.format.specs.declared.Refusal.TheVariants.{NotNormal}
-use Rattle.format.specs.declared.CheckAnswer.TheVariants.{Accepted, Refused}
+use Rattle.std.specs.Prelude.{Err}
+use Rattle.format.specs.AnswerParts.{accepted_as}
 
 -- at p one of both ends, or their bytes differ
 pub record Parted (a b : List ℕ) (p : ℕ) : Type 0 where
@@ -46,24 +47,24 @@ itself [] = refl
 itself (x ∷ a) = rw (eq-eqb x x refl) (itself a)
 
 module _ (h : Header) (a b : List ℕ) where
-  pub differs : (p : ℕ) → SameBytes a b 0 p → Parted a b p → Refused (NotNormal p) ≡ profile_form h a b
+  pub differs : (p : ℕ) → SameBytes a b 0 p → Parted a b p → Err (NotNormal p) ≡ profile_form h a b
   unfolding profile_form pick
   differs p same w =
       let d = parted a b p (λ k l. same k (omega arith) (omega arith)) w in rw (d.0, d.1)
 
   -- one is a start of the other
-  pub shorter : SameBytes a b 0 (length a) → length a < length b → Refused (NotNormal (length a)) ≡ profile_form h a b
+  pub shorter : SameBytes a b 0 (length a) → length a < length b → Err (NotNormal (length a)) ≡ profile_form h a b
   shorter same l =
       differs (length a) same
       (record { first = omega arith; second = omega arith; bytes = λ m n q. omega arith; ends = λ m n. omega arith })
 
-  pub longer : (p : ℕ) → p ≡ length b → SameBytes a b 0 p → p < length a → Refused (NotNormal p) ≡ profile_form h a b
+  pub longer : (p : ℕ) → p ≡ length b → SameBytes a b 0 p → p < length a → Err (NotNormal p) ≡ profile_form h a b
   longer p e same l =
       differs p same
       (record { first = omega arith; second = omega arith; bytes = λ m n q. omega arith; ends = λ m n. omega arith })
 
   pub same_file_lem : length a ≡ length b → SameBytes a b 0 (length a)
-      → Accepted h.capacity h.grain_size ≡ profile_form h a b
+      → accepted_as h.capacity h.grain_size ≡ profile_form h a b
   unfolding profile_form pick
   same_file_lem long same =
       let e : a ≡ b = ext_get_or 0 a b long (λ i l. same i (omega arith) (omega arith)) in

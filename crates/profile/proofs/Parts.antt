@@ -17,9 +17,9 @@ use Rattle.layout.proofs.Padded.{entries_padded}
 use Rattle.format.specs.Profile.{profile_form}
 use Rattle.format.specs.declared.Header.{Header}
 use Rattle.format.specs.declared.Refusal.TheVariants.{NotNormal}
-use Rattle.format.specs.declared.CheckAnswer.TheVariants.{Refused}
 use Rattle.alike.specs.FirstOther.{FirstOther}
 use Rattle.profile.proofs.FirstDifference.{differs}
+use Rattle.std.specs.Prelude.{Err}
 
 -- w stands in t from `at` on, and before it s and t are alike
 module _ (s t : List ℕ) (at : ℕ) (w : List ℕ) (stands : Stands t at w) (same : SameBytes s t 0 at) (r : ℕ)
@@ -39,7 +39,7 @@ module _ (s t : List ℕ) (at : ℕ) (w : List ℕ) (stands : Stands t at w) (sa
   part_same end e l k z b = below k z (omega arith)
 
   pub part_other : (h : Header) (end : ℕ) → at + length w ≡ end → r < end → end ≤ length s
-      → Refused (NotNormal r) ≡ profile_form h s t
+      → Err (NotNormal r) ≡ profile_form h s t
   part_other h end e l room =
       differs h s t r below
       (record {

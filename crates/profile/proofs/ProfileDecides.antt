@@ -24,9 +24,6 @@ use Rattle.format.specs.declared.Header.{Header}
 use Rattle.format.specs.declared.Kind.TheVariants.{Kdmv}
 use Rattle.format.specs.declared.Entry.TheVariants.{Sector}
 use Rattle.format.specs.declared.Refusal.TheVariants.{NotNormal}
-use Rattle.format.specs.declared.HeaderAnswer.TheVariants.{Known}
-use Rattle.format.specs.declared.CheckAnswer.{CheckAnswer}
-use Rattle.format.specs.declared.CheckAnswer.TheVariants.{Accepted, Refused}
 use Rattle.accept.specs.AcceptedHeader.{accepted_header}
 use Rattle.laws.specs.SameFrame.{SameAreas, SameFrame}
 use Rattle.laws.specs.ProfileImages.{DifferAt, byte, first_ends, second_ends, FirstAt}
@@ -49,6 +46,10 @@ use Rattle.profile.proofs.LaidGrains.{grains_alike}
 use Rattle.profile.proofs.FormFront.{stored_told, entry_told_lem, laid_same, fronts_alike}
 use Rattle.profile.proofs.Stages.{sizes, image_long, fits, form_long, full, laid_readable, own}
 use Rattle.profile.proofs.Taking.{published_of, taken_of}
+use Rattle.std.specs.Prelude.{Result, Ok, Err}
+use Rattle.format.specs.declared.Shape.{Shape}
+use Rattle.format.specs.declared.Refusal.{Refusal}
+use Rattle.format.specs.AnswerParts.{accepted_as}
 
 -- ---- where a file first differs from its form, so does another, if both files and both forms are alike up to there
 module _ {s t u v : List ℕ} {n : ℕ} (long : length s ≡ length t) (other : length u ≡ length v)
@@ -66,7 +67,7 @@ module _ {s t u v : List ℕ} {n : ℕ} (long : length s ≡ length t) (other : 
     differ = differ_too f.differ;
   }
 
-first_answer : (h : Header) (a b : List ℕ) (n : ℕ) → FirstAt a b n → profile_form h a b ≡ Refused (NotNormal n)
+first_answer : (h : Header) (a b : List ℕ) (n : ℕ) → FirstAt a b n → profile_form h a b ≡ Err (NotNormal n)
 unfolding profile_form pick
 first_answer h a b n f =
     let no = first_differs f in rw (other_file a b no, place_only (place_first a b no) f)
@@ -91,10 +92,10 @@ module _ (s : List ℕ) (h : Header) (p : Published s h)
       grains_alike z (grain_map s h) s (fits s h p) (own s h p header) (laid_readable s h p header) (full s h p) same inside
 
   -- it is the form, or longer
-  start_answer : form_length < length s → compared s h ≡ Refused (NotNormal form_length)
+  start_answer : form_length < length s → compared s h ≡ Err (NotNormal form_length)
   start_answer l = sym (longer h s (form_of s h) form_length (sym (form_long s h p)) starts.0 l)
 
-  form_answer : length s ≤ form_length → compared s h ≡ Accepted h.capacity h.grain_size
+  form_answer : length s ≤ form_length → compared s h ≡ accepted_as h.capacity h.grain_size
   form_answer l =
       let long : length s ≡ form_length = omega (arith, starts.1) in
       sym (same_file_lem h s (form_of s h) (long ∙ sym (form_long s h p)) (rw (← long) at starts.0))
@@ -203,7 +204,7 @@ module _ (s t : List ℕ) (h : Header) (p : Published s h) (q : Published t h) (
       ⊎_elim
       (λ l.
       start_answer s h p same inside l
-      ∙ ap (λ (n : ℕ). Refused (NotNormal (512 * n))) sectors_same
+      ∙ ap (λ (n : ℕ). Err (NotNormal (512 * n))) sectors_same
       ∙ sym (start_answer t h q other room (rw (← both.long, ← sectors_same) l)))
       (λ l.
       form_answer s h p same inside l ∙ sym (form_answer t h q other room (rw (← both.long, ← sectors_same) l)))
@@ -228,35 +229,36 @@ module _ (s t : List ℕ) (h : Header) (p : Published s h) (q : Published t h) (
       (true_or_false (same_file s (form_of s h)))
 
 -- ---- an accepted image that no rule before the form refuses
-known_as : (a : CheckAnswer) (c size : ℕ) (k h : Header) → a ≡ Accepted c size → k ≡ h → accepted_header a k ≡ Known h
+known_as : (a : Result Shape Refusal) (c size : ℕ) (k h : Header) → a ≡ accepted_as c size → k ≡ h → accepted_header a k ≡ Ok h
 unfolding accepted_header
 known_as a c size k h e i = rw (e, i)
 
-accepted_published : (s : List ℕ) (h : Header) (c size : ℕ) → check s ≡ Accepted c size → header_of s ≡ h
+accepted_published : (s : List ℕ) (h : Header) (c size : ℕ) → check s ≡ accepted_as c size → header_of s ≡ h
     → not_collapsible h ≡ false → still_open h ≡ false → profile_sizes_broken h ≡ false → Published s h
 accepted_published s h c size e i n o z =
     published_of s h (taken_of s _ refl h (known_as (check s) c size (header_of s) h e i)) refl n refl o refl z
 
 module _ (s t : List ℕ) (both : SameFrame s t) (gap : SameGap s t (header_of s)) where
-  checked : (a : CheckAnswer) → check s ≡ a → profile s ≡ profile t
+  checked : (a : Result Shape Refusal) → check s ≡ a → profile s ≡ profile t
   unfolding profile_from
-  checked (Refused r) e =
+  checked (Err r) e =
       profile_handed s r e ∙ sym (profile_handed t r (sym (frame_decides_check s t both) ∙ e))
-  checked (Accepted c size) e =
+  checked (Ok sizes) e =
       let h = header_of s in
-      let i : header_of t ≡ h = sym (header_accepted s t (decides s t both) c size e) in
+      let i : header_of t ≡ h = sym (header_accepted s t (decides s t both) sizes.capacity sizes.grain_size e) in
       let f = sym (frame_decides_check s t both) ∙ e in
-      accepted_profile s c size e
+      accepted_profile s sizes.capacity sizes.grain_size e
       ∙ pick_both ◌≡◌ (not_collapsible h) _ _ _ _ (λ b. refl)
       (λ n.
       pick_both ◌≡◌ (still_open h) _ _ _ _ (λ b. refl)
       (λ o.
       pick_both ◌≡◌ (profile_sizes_broken h) _ _ _ _ (λ b. refl)
       (λ z.
-      forms_compared s t h (accepted_published s h c size e refl n o z) (accepted_published t h c size f i n o z) both gap
-      (accepted_entries s t (decides s t both) c size e))))
+      forms_compared s t h (accepted_published s h sizes.capacity sizes.grain_size e refl n o z)
+      (accepted_published t h sizes.capacity sizes.grain_size f i n o z) both gap
+      (accepted_entries s t (decides s t both) sizes.capacity sizes.grain_size e))))
       ∙ ap (λ (k : Header). profile_from k t (form_of t k)) (sym i)
-      ∙ sym (accepted_profile t c size f)
+      ∙ sym (accepted_profile t sizes.capacity sizes.grain_size f)
 
   pub frame_decides_profile : profile s ≡ profile t
   frame_decides_profile = checked (check s) refl

@@ -14,7 +14,6 @@ use Rattle.format.specs.Grains.{grain_map, grain_from}
 use Rattle.format.specs.Layout.{Fits, table_count, sectors_laid, header_bytes}
 use Rattle.format.specs.declared.Kind.TheVariants.{Kdmv}
 use Rattle.format.specs.declared.Header.{Header}
-use Rattle.format.specs.declared.CheckAnswer.TheVariants.{Accepted as accepted}
 use Rattle.format.proofs.Grains.{grain_whole}
 use Rattle.format.proofs.Lengths.{header_length}
 use Rattle.layers.specs.TwoLayers.{Readable}
@@ -27,6 +26,7 @@ use Rattle.laws.proofs.LayoutHeader.{laid_header}
 use Rattle.alike.specs.FirstOther.{FirstOther}
 use Rattle.profile.specs.FormCompared.{form_of, Published}
 use Rattle.profile.proofs.LaidFront.{header_told}
+use Rattle.format.specs.AnswerParts.{accepted_as}
 
 -- ---- an accepted image
 module _ (s : List ℕ) (h : Header) (p : Published s h) where

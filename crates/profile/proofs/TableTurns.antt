@@ -17,7 +17,6 @@ use Rattle.format.specs.Layout.{table_count, tables_at, sector_v, sector_of, sec
 use Rattle.format.specs.declared.Kind.TheVariants.{Kdmv}
 use Rattle.format.specs.declared.Header.{Header}
 use Rattle.format.specs.declared.Refusal.TheVariants.{NotNormal}
-use Rattle.format.specs.declared.CheckAnswer.TheVariants.{Accepted, Refused}
 use Rattle.layout.specs.WrittenParts.{entries_end}
 use Rattle.layout.proofs.PartSizes.{directory_fits, unused_ends, entries_before}
 use Rattle.laws.proofs.LayoutNumbers.{some_size, sector_small}
@@ -32,6 +31,8 @@ use Rattle.profile.proofs.LaidFront.{gap_unused, entry_is, next_is}
 use Rattle.profile.proofs.LaidGrains.{grains_alike}
 use Rattle.profile.proofs.Stages.{sizes, fits, form_long, full, laid_readable, own}
 use Rattle.profile.proofs.EntryTurns.{alike_as, alike_on, alike_not, earlier, tables_room}
+use Rattle.std.specs.Prelude.{Err}
+use Rattle.format.specs.AnswerParts.{accepted_as}
 
 -- ---- the tables
 pub first_sector : (s : List ℕ) (h : Header) (v : ℕ) → v ≡ sector_v Kdmv h.capacity h.grain_size
@@ -85,7 +86,7 @@ module _ {s : List ℕ} {h : Header} (first all g next entry r : ℕ) (a : Alike
       pub entry_on : first + 4 * g + 4 ≤ r → AlikeTo (first + 4 * (g + 1)) s h
       entry_on b = alike_on a _ entry_there r f _ (le_ends _ 4 (entry_meant entry next) _ (omega arith)) (omega arith)
 
-      pub entry_not : r < first + 4 * g + 4 → Refused (NotNormal r) ≡ compared s h
+      pub entry_not : r < first + 4 * g + 4 → Err (NotNormal r) ≡ compared s h
       entry_not b =
           alike_not a _ entry_there r f (first + 4 * g + 4) (le_ends _ 4 (entry_meant entry next) _ refl) b entry_room
 
@@ -172,7 +173,7 @@ module _ {s : List ℕ} {h : Header} (sectors first all v end r : ℕ)
     abbrev upto : AlikeTo from s h
     upto = alike_as a.alike _ (sym starts)
 
-    pub gap_not : r < end → Refused (NotNormal r) ≡ compared s h
+    pub gap_not : r < end → Err (NotNormal r) ≡ compared s h
     gap_not b =
         alike_not upto _ gap_there r f end (zeros_ends _ _ _ (omega (arith, gap_fits.0))) b gap_fits.1
 
@@ -180,7 +181,7 @@ module _ {s : List ℕ} {h : Header} (sectors first all v end r : ℕ)
     gap_on b = alike_on upto _ gap_there r f end (zeros_ends _ _ _ (omega (arith, gap_fits.0))) b
 
     -- the image ends before V
-    pub gap_short : end ≤ r → end < 512 * v → Refused (NotNormal end) ≡ compared s h
+    pub gap_short : end ≤ r → end < 512 * v → Err (NotNormal end) ≡ compared s h
     unfolding sectors_laid
     gap_short b l =
         let q : end ≡ length s = omega arith in
@@ -222,12 +223,12 @@ module _ {s : List ℕ} {h : Header} (sectors : ℕ)
         sector_small Kdmv (sizes s h p) (grain_map s h) (grains h.capacity h.grain_size) (omega arith),
       )
 
-  pub too_long : 512 * sectors < length s → Refused (NotNormal (512 * sectors)) ≡ compared s h
+  pub too_long : 512 * sectors < length s → Err (NotNormal (512 * sectors)) ≡ compared s h
   too_long l =
       let q : 512 * sectors_laid Kdmv h.capacity h.grain_size (grain_map s h) ≡ 512 * sectors = omega (arith, a.laid) in
       longer h s (form_of s h) (512 * sectors) (omega (arith, form_long s h p)) (rw q at all_same.0) l
 
-  pub as_long : length s ≤ 512 * sectors → Accepted h.capacity h.grain_size ≡ compared s h
+  pub as_long : length s ≤ 512 * sectors → accepted_as h.capacity h.grain_size ≡ compared s h
   as_long l =
       let q : 512 * sectors_laid Kdmv h.capacity h.grain_size (grain_map s h) ≡ length s =
       omega (arith, a.laid, all_same.1) in

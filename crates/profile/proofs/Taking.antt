@@ -13,14 +13,13 @@ use Rattle.format.specs.Collapse.{normal_form, not_collapsible, still_open}
 use Rattle.format.specs.Profile.{profile_sizes_broken, profile_from, profile_if_accepted, profile}
 use Rattle.format.specs.declared.Header.{Header}
 use Rattle.format.specs.declared.Refusal.{Refusal}
-use Rattle.format.specs.declared.HeaderAnswer.{HeaderAnswer}
-use Rattle.format.specs.declared.HeaderAnswer.TheVariants.{Known, Refused as unknown}
-use Rattle.format.specs.declared.CheckAnswer.{CheckAnswer}
-use Rattle.format.specs.declared.CheckAnswer.TheVariants.{Accepted, Refused}
 use Rattle.accept.specs.AcceptedHeader.{accepted_header}
 use Rattle.accept.proofs.AcceptedHeaders.{checked_of}
 use Rattle.laws.proofs.AcceptedImage.{accepted_sound}
 use Rattle.profile.specs.FormCompared.{form_of, Taken, Published}
+use Rattle.std.specs.Prelude.{Result, Ok, Err}
+use Rattle.format.specs.declared.Shape.{Shape}
+use Rattle.format.specs.AnswerParts.{accepted_as}
 
 -- ---- 23, 27, 47
 pub published_of : {a b d : Bool} (s : List ℕ) (h : Header) → Taken s h → a ≡ not_collapsible h → a ≡ false → b ≡ still_open h
@@ -37,30 +36,30 @@ published_of s h t e n f o g k =
 
 -- ---- the check, at the arms of a match
 module _ (s : List ℕ) where
-  refused_by : (b x : CheckAnswer) (r : Refusal) → accepted_header b (header_of s) ≡ unknown r
-      → Refused r ≡ profile_if_accepted b x
+  refused_by : (b x : Result Shape Refusal) (r : Refusal) → accepted_header b (header_of s) ≡ Err r
+      → Err r ≡ profile_if_accepted b x
   unfolding accepted_header profile_if_accepted
-  refused_by (Refused q) x r p = cc
-  refused_by (Accepted c z) x r p = let n : ◌≡◌ {A = ℕ} 0 1 = cc in absurd (omega arith)
+  refused_by (Err q) x r p = cc
+  refused_by (Ok sizes) x r p = let n : ◌≡◌ {A = ℕ} 0 1 = cc in absurd (omega arith)
 
-  known_by : (b x : CheckAnswer) (h : Header) → b ≡ check s → accepted_header b (header_of s) ≡ Known h
-      → (x ≡ profile_if_accepted b x) × (check s ≡ Accepted h.capacity h.grain_size)
+  known_by : (b x : Result Shape Refusal) (h : Header) → b ≡ check s → accepted_header b (header_of s) ≡ Ok h
+      → (x ≡ profile_if_accepted b x) × (check s ≡ accepted_as h.capacity h.grain_size)
   unfolding accepted_header profile_if_accepted
-  known_by (Refused q) x h e p = let n : ◌≡◌ {A = ℕ} 0 1 = cc in absurd (omega arith)
-  known_by (Accepted c z) x h e p =
+  known_by (Err q) x h e p = let n : ◌≡◌ {A = ℕ} 0 1 = cc in absurd (omega arith)
+  known_by (Ok sizes) x h e p =
       let is : header_of s ≡ h = cc in
-      let told = accepted_sound s c z (sym e) in
+      let told = accepted_sound s sizes.capacity sizes.grain_size (sym e) in
       (refl, sym e ∙ rw (told.1, told.2, is))
 
-  module _ (a : HeaderAnswer) (e : a ≡ accepted_header (check s) (header_of s)) where
-    pub not_accepted : (r : Refusal) → a ≡ unknown r → Refused r ≡ profile s
+  module _ (a : Result Header Refusal) (e : a ≡ accepted_header (check s) (header_of s)) where
+    pub not_accepted : (r : Refusal) → a ≡ Err r → Err r ≡ profile s
     not_accepted r q = refused_by (check s) _ r (sym e ∙ q)
 
-    module _ (h : Header) (q : a ≡ Known h) where
+    module _ (h : Header) (q : a ≡ Ok h) where
       pub taken_of : Taken s h
       taken_of = record { checked = checked_of _ s a h e q; accepted = (known_by (check s) (check s) h refl (sym e ∙ q)).1 }
 
-      pub as_profile : (r : CheckAnswer) → r ≡ profile_from h s (form_of s h) → r ≡ profile s
+      pub as_profile : (r : Result Shape Refusal) → r ≡ profile_from h s (form_of s h) → r ≡ profile s
       as_profile r p =
           let is = (checked_of _ s a h e q).is in
           (rw is at p) ∙ (known_by (check s) (profile_from (header_of s) s (normal_form s)) h refl (sym e ∙ q)).0

@@ -9,15 +9,17 @@ use Rattle.format.specs.Layout.{sectors_laid}
 use Rattle.format.specs.Profile.{profile_form}
 use Rattle.format.specs.declared.Kind.TheVariants.{Kdmv}
 use Rattle.format.specs.declared.Header.{Header}
-use Rattle.format.specs.declared.CheckAnswer.{CheckAnswer}
-use Rattle.format.specs.declared.CheckAnswer.TheVariants.{Accepted}
 use Rattle.accept.specs.AcceptedHeader.{Checked}
+use Rattle.std.specs.Prelude.{Result}
+use Rattle.format.specs.declared.Shape.{Shape}
+use Rattle.format.specs.declared.Refusal.{Refusal}
+use Rattle.format.specs.AnswerParts.{accepted_as}
 
 -- the image's normal form, and what comparing both answers
 abbrev pub form_of : List ℕ → Header → List ℕ
 form_of s h = laid_out h (grain_map s h)
 
-abbrev pub compared : List ℕ → Header → CheckAnswer
+abbrev pub compared : List ℕ → Header → Result Shape Refusal
 compared s h = profile_form h s (form_of s h)
 
 -- ---- an entry of the normal form, by the image's own entry e, where the next stored grain stands at sector `next`
@@ -31,7 +33,7 @@ next_meant e next = pick (ltb 1 e) (next + 128) next
 -- ---- the image
 pub record Taken (s : List ℕ) (h : Header) : Type 0 where
   pub checked : Checked s h
-  pub accepted : check s ≡ Accepted h.capacity h.grain_size
+  pub accepted : check s ≡ accepted_as h.capacity h.grain_size
 
 -- 23, 27 and 47 are not given
 pub record Published (s : List ℕ) (h : Header) : Type 0 where

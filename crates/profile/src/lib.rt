@@ -2,17 +2,16 @@
 // in the file's order, each where all before it are alike.
 #![tactic(auto)]
 
-ghost use Rattle.std.specs.Prelude.{◌≡◌, ◌+◌, ◌*◌, ◌≤◌, min, length};
+ghost use Rattle.std.specs.Prelude.{◌≡◌, ◌+◌, ◌*◌, ◌≤◌, min, length, Err};
 ghost use Rattle.format.specs.Layout.{table_count, tables_at, sector_v};
 ghost use Rattle.format.specs.Profile.{profile_sizes_broken, profile_from, profile};
 ghost use Rattle.format.specs.declared.Kind.TheVariants.{Kdmv};
 ghost use Rattle.format.specs.declared.Refusal.TheVariants.{NotNormal};
-ghost use Rattle.format.specs.declared.CheckAnswer.TheVariants.{Refused};
 ghost use Rattle.layout.specs.WrittenParts.{entries_end};
 ghost use Rattle.blocks.specs.Blocks.{Passed};
 ghost use Rattle.profile.specs.FormCompared.{form_of, compared, entry_meant, next_meant, Taken, Published, AlikeTo, Laid};
 
-use format::{CheckAnswer, Header, HeaderAnswer, Kind, Refusal};
+use format::{Header, Kind, Refusal, Shape};
 use layout::{sector_v, tables_at, tables_of};
 use sizes::grains_of;
 
@@ -23,10 +22,10 @@ fn sizes_broken(h: Header) -> bool
     !(h.grain_size == 128) | !(h.capacity % 128 == 0)
 }
 
-fn not_normal(place: usize) -> CheckAnswer
-    ensures { result ≡ Refused (NotNormal place) }
+fn not_normal(place: usize) -> Result<Shape, Refusal>
+    ensures { result ≡ Err (NotNormal place) }
 {
-    CheckAnswer::Refused(Refusal::NotNormal(place as u64))
+    Err(Refusal::NotNormal(place as u64))
 }
 
 // Entries 0 and 1 mean themselves, any other the sector where the next stored grain stands.
@@ -52,7 +51,7 @@ fn next_meant(entry: u64, next: u64) -> u64
 
 // The lengths: where all before the grains is alike, each stands where it is meant to, so its bytes are the form's. The form
 // has so many sectors, and the image no less.
-fn compare_lengths(image: &[u8], h: Header, sectors: u64) -> CheckAnswer
+fn compare_lengths(image: &[u8], h: Header, sectors: u64) -> Result<Shape, Refusal>
     requires { Laid (512 * sector_v Kdmv h.capacity h.grain_size) sectors image.now h }
     ensures { result ≡ compared image.now h }
 {
@@ -60,10 +59,10 @@ fn compare_lengths(image: &[u8], h: Header, sectors: u64) -> CheckAnswer
     if long < image.len() {
         return not_normal(long);
     }
-    CheckAnswer::Accepted {
+    Ok(Shape {
         capacity: h.capacity,
         grain_size: h.grain_size,
-    }
+    })
 }
 
 fn least(a: usize, b: usize) -> usize
@@ -76,7 +75,7 @@ fn least(a: usize, b: usize) -> usize
 }
 
 // Unused table entries and the gap: zeros up to V. An image that stores no grain may end before it.
-fn compare_gap(image: &[u8], h: Header, sectors: u64) -> CheckAnswer
+fn compare_gap(image: &[u8], h: Header, sectors: u64) -> Result<Shape, Refusal>
     requires { Laid (entries_end Kdmv h.capacity h.grain_size) sectors image.now h }
     ensures { result ≡ compared image.now h }
 {
@@ -105,8 +104,8 @@ fn past_absent(image: &[u8], tables: u64, g: u64, all: u64) -> u64
     g
 }
 
-// The table entries in use.
-fn compare_tables(image: &[u8], h: Header) -> CheckAnswer
+// The table entries in use. No range: g goes past a run of zeros at once, however long it is.
+fn compare_tables(image: &[u8], h: Header) -> Result<Shape, Refusal>
     requires { AlikeTo (512 * tables_at Kdmv h.capacity h.grain_size) image.now h }
     ensures { result ≡ compared image.now h }
 {
@@ -117,7 +116,7 @@ fn compare_tables(image: &[u8], h: Header) -> CheckAnswer
     let mut g: u64 = 0;
     while g < all {
         let at = (first + 4 * g) as usize;
-        let entry = base::u32_at(image, at);
+        let entry = base::number_at::<4>(image, at);
         let place = alike::first_of_number(image, at, entry_meant(entry, next));
         if place < at + 4 {
             return not_normal(place);
@@ -129,7 +128,7 @@ fn compare_tables(image: &[u8], h: Header) -> CheckAnswer
 }
 
 // What is left of the directory's sectors after the entries in use.
-fn compare_unused(image: &[u8], h: Header) -> CheckAnswer
+fn compare_unused(image: &[u8], h: Header) -> Result<Shape, Refusal>
     requires { AlikeTo (512 + 4 * table_count Kdmv h.capacity h.grain_size) image.now h }
     ensures { result ≡ compared image.now h }
 {
@@ -143,26 +142,24 @@ fn compare_unused(image: &[u8], h: Header) -> CheckAnswer
 }
 
 // The directory entries in use: a table for each, of 4 sectors.
-fn compare_directory(image: &[u8], h: Header) -> CheckAnswer
+fn compare_directory(image: &[u8], h: Header) -> Result<Shape, Refusal>
     requires { AlikeTo 512 image.now h }
     ensures { result ≡ compared image.now h }
 {
     let n = tables_of(Kind::Kdmv, h.capacity, h.grain_size);
     let first = tables_at(Kind::Kdmv, h.capacity, h.grain_size);
-    let mut d: u64 = 0;
-    while d < n {
+    for d in 0..n {
         let at = (512 + 4 * d) as usize;
         let place = alike::first_of_number(image, at, first + 4 * d);
         if place < at + 4 {
             return not_normal(place);
         }
-        d += 1;
     }
     compare_unused(image, h)
 }
 
 // The header, which alone is written: it tells of no redundant directory and of no descriptor.
-fn compare_header(image: &[u8], h: Header) -> CheckAnswer
+fn compare_header(image: &[u8], h: Header) -> Result<Shape, Refusal>
     requires { Published image.now h }
     ensures { result ≡ compared image.now h }
 {
@@ -176,29 +173,26 @@ fn compare_header(image: &[u8], h: Header) -> CheckAnswer
 }
 
 // Of an accepted image: 23, 27, 47, 42.
-fn profile_accepted(image: &[u8], h: Header) -> CheckAnswer
+fn profile_accepted(image: &[u8], h: Header) -> Result<Shape, Refusal>
     requires { Taken image.now h }
     ensures { result ≡ profile_from h image.now (form_of image.now h) }
 {
     if collapse::not_collapsible(h) {
-        return CheckAnswer::Refused(Refusal::NotCollapsible);
+        return Err(Refusal::NotCollapsible);
     }
     if collapse::still_open(h) {
-        return CheckAnswer::Refused(Refusal::StillOpen);
+        return Err(Refusal::StillOpen);
     }
     if sizes_broken(h) {
-        return CheckAnswer::Refused(Refusal::ProfileSizes);
+        return Err(Refusal::ProfileSizes);
     }
     compare_header(image, h)
 }
 
 // Accepted, with capacity and grain size, exactly where the image meets the profile; else the first refusal.
-pub fn profile(image: &[u8]) -> CheckAnswer
+pub fn profile(image: &[u8]) -> Result<Shape, Refusal>
     ensures { result ≡ profile image.now }
 {
-    let judged = accept::accepted(image);
-    match judged {
-        HeaderAnswer::Refused(r) => CheckAnswer::Refused(r),
-        HeaderAnswer::Known(h) => profile_accepted(image, h),
-    }
+    let h = accept::accepted(image)?;
+    profile_accepted(image, h)
 }

@@ -20,18 +20,15 @@ use Rattle.format.specs.declared.Entry.TheVariants.{Absent, Zero, Sector}
 use Rattle.format.specs.declared.Source.{Source}
 use Rattle.format.specs.declared.Source.TheVariants.{Absent as no_source, Zero as zero_source, Stored, Packed}
 use Rattle.format.specs.declared.Refusal.{Refusal}
-use Rattle.format.specs.declared.HeaderAnswer.{HeaderAnswer}
-use Rattle.format.specs.declared.HeaderAnswer.TheVariants.{Known, Refused as unknown}
-use Rattle.format.specs.declared.LookupAnswer.{LookupAnswer}
-use Rattle.format.specs.declared.LookupAnswer.TheVariants.{Found, Refused}
 use Rattle.format.specs.Judged.{Sound}
 use Rattle.header.proofs.HeaderAnswered.{judged_sound}
 use Rattle.reader.specs.PartEnd.{part_end}
 use Rattle.lookup.proofs.LookupLaws.{sector_of_lem}
+use Rattle.std.specs.Prelude.{Result, Ok, Err}
 
-pub data Served (s : List ℕ) : LookupAnswer → Type 0 where
-  refused : {r : Refusal} → Served s (Refused r)
-  found : {source : Source} → part_end source ≤ length s → Served s (Found source)
+pub data Served (s : List ℕ) : Result Source Refusal → Type 0 where
+  refused : {r : Refusal} → Served s (Err r)
+  found : {source : Source} → part_end source ≤ length s → Served s (Ok source)
 
 source_end : (s : List ℕ) (packed : Bool) (size o e : ℕ) → o < size → e + grain_sectors s packed size e ≤ file_sectors s
     → part_end (grain_source s packed o e) ≤ length s
@@ -67,19 +64,19 @@ module _ (s : List ℕ) (h : Header) where
       cond_all (Served s) _ _ _ (λ p. refused)
       (λ n. cond_all (Served s) _ _ _ (λ p. refused) (λ m. table_served _ _ _ (sector_of_lem h x z)))
 
-from_served : (s : List ℕ) (x : ℕ) (a : HeaderAnswer) → a ≡ judge s → Served s (lookup_from s x a)
+from_served : (s : List ℕ) (x : ℕ) (a : Result Header Refusal) → a ≡ judge s → Served s (lookup_from s x a)
 unfolding lookup_from
-from_served s x (unknown r) e = refused
-from_served s x (Known h) e = in_served s h (judged_sound (Known h) s h e refl) x
+from_served s x (Err r) e = refused
+from_served s x (Ok h) e = in_served s h (judged_sound (Ok h) s h e refl) x
 
-found_of : {s : List ℕ} {source : Source} → Served s (Found source) → part_end source ≤ length s
+found_of : {s : List ℕ} {source : Source} → Served s (Ok source) → part_end source ≤ length s
 found_of (found l) = l
 
-served_inside : (a : LookupAnswer) (s : List ℕ) (x : ℕ) (source : Source) → a ≡ sector_lookup s x → a ≡ Found source
+served_inside : (a : Result Source Refusal) (s : List ℕ) (x : ℕ) (source : Source) → a ≡ sector_lookup s x → a ≡ Ok source
     → part_end source ≤ length s
 served_inside a s x source e q = found_of (subst (Served s) (sym e ∙ q) (from_served s x (judge s) refl))
 
-pub served_fits : (a : LookupAnswer) (s : List ℕ) (x : ℕ) (source : Source) → a ≡ sector_lookup s x → a ≡ Found source
+pub served_fits : (a : Result Source Refusal) (s : List ℕ) (x : ℕ) (source : Source) → a ≡ sector_lookup s x → a ≡ Ok source
     → length s < 2 ^ 64 → part_end source < 2 ^ 64
 served_fits a s x source e q l = omega (arith, served_inside a s x source e q)
 
@@ -94,13 +91,13 @@ module _ (r : Source) (n : ℕ) (l : part_end r < n) where
 pub source_as : (z : Part) (r v : Source) → r ≡ v → z ≡ source_part v → z ≡ source_part r
 source_as z r v e t = rw e t
 
-pub part_as : (z : Part) (a r v : LookupAnswer) → r ≡ a → r ≡ v → z ≡ answer_part v → z ≡ answer_part a
+pub part_as : (z : Part) (a r v : Result Source Refusal) → r ≡ a → r ≡ v → z ≡ answer_part v → z ≡ answer_part a
 part_as z a r v e q t = rw (← e, q) t
 
 -- ---- the part that the reader hands back
-served_end : (s : List ℕ) (a : LookupAnswer) → Served s a → (answer_part a).at + (answer_part a).length ≤ length s
-served_end s (Refused r) v = omega arith
-served_end s (Found source) (found l) = l
+served_end : (s : List ℕ) (a : Result Source Refusal) → Served s a → (answer_part a).at + (answer_part a).length ≤ length s
+served_end s (Err r) v = omega arith
+served_end s (Ok source) (found l) = l
 
 pub part_inside : (r : Part) (s : List ℕ) (x : ℕ) → r ≡ answer_part (sector_lookup s x) → r.at + r.length ≤ length s
 part_inside r s x e = rw e (served_end s (sector_lookup s x) (from_served s x (judge s) refl))

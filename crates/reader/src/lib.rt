@@ -5,7 +5,7 @@ ghost use Rattle.std.specs.Prelude.{◌≡◌, ◌+◌, ◌*◌, ◌^◌, ◌<�
 ghost use Rattle.format.specs.Source.{sector_lookup, source_part, answer_part, read};
 ghost use Rattle.reader.specs.PartEnd.{part_end};
 
-use format::{LookupAnswer, Part, Source};
+use format::{Part, Source};
 
 fn nothing() -> Part
     ensures { result ≡ record { at = 0; length = 0 } }
@@ -57,8 +57,8 @@ pub fn part(image: &[u8], sector: u64) -> Part
 {
     let answer = lookup::lookup(image, sector);
     match answer {
-        LookupAnswer::Found(source) => source_part(source),
-        LookupAnswer::Refused(_) => nothing(),
+        Ok(source) => source_part(source),
+        Err(_) => nothing(),
     }
 }
 

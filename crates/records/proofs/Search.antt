@@ -1,57 +1,29 @@
--- What a search for a sector has found, by the record that it has come to; and whether a record holds a sector.
-use Prim.Native.Nat.{ℕ, ◌+◌, ◌-◌, ◌≤◌, ◌<◌}
-use mathlib.Core.Path.{◌≡◌, refl, ap, ◌∙◌}
-use mathlib.Core.Bool.{Bool, true, false, not}
-use mathlib.Core.List.{List}
-use native.Mathlib.Omega.{arith}
-use native.Mathlib.Numerals.{add-one}
-use lib.Dec.{T, ltb}
-use lib.ListN.{length, get_or, drop, drop_of_length-le}
-use lib.Seq.{drop-cons}
-use borrow.Author.Tests.{le-leb, lt-leb}
+-- What a search for a sector has found.
+use Rattle.std.proofs.Common.{◌≡◌, ℕ, ◌+◌, List, [], ◌∷◌, Bool, true, false, Option, None, Some, refl, sym, ◌∙◌, ap}
+use Rattle.std.specs.Prelude.{position, cond}
+use Rattle.std.specs.List.{position_from}
+use Rattle.std.proofs.lemmas.Iterator.Adapters.{position_from-zero}
 use Rattle.base.specs.Pick.{pick}
-use Rattle.base.proofs.Steps.{same_lt}
 use Rattle.descriptor.specs.declared.Extent.{Extent}
 use Rattle.descriptor.specs.declared.Found.{Found}
-use Rattle.descriptor.specs.Descriptor.{no_extent}
-use Rattle.descriptor.specs.Records.{holding, found_at, not_found, found_from}
+use Rattle.descriptor.specs.Records.{holding, found_at, not_found, found_from, find_answer}
 
--- ---- one record
-module _ (e : Extent) (sector : ℕ) where
-  pub held : e.first ≤ sector → ltb (sector - e.first) e.sectors ≡ holding e sector
-  held h = rw (le-leb _ _ h) (same_lt (sector - e.first) e.sectors sector (e.first + e.sectors) (λ l. omega arith)
-      (λ l. omega arith))
+-- a record's number in an answer
+abbrev pub told : Option ℕ → Found
+told None = not_found
+told (Some i) = found_at i
 
-  pub not_held : sector < e.first → false ≡ holding e sector
-  not_held h = rw (lt-leb _ _ h)
-
--- ---- the list from the record i on
-pick_yes : (t : Bool) (a b : Found) → T t → pick t a b ≡ a
+told_either : (b : Bool) (i : ℕ) (r : Option ℕ) → pick b (found_at i) (told r) ≡ told (cond b (Some i) r)
 unfolding pick
-pick_yes true a b h = refl
-pick_yes false a b h = absurd h
+told_either true i r = refl
+told_either false i r = refl
 
-pick_no : (t : Bool) (a b : Found) → T (not t) → pick t a b ≡ b
-unfolding pick
-pick_no true a b h = absurd h
-pick_no false a b h = refl
+told_from : (list : List Extent) (i sector : ℕ) → found_from list i sector ≡ told (position_from (λ e. holding e sector) i list)
+unfolding found_from
+told_from [] i sector = refl
+told_from (e ∷ list) i sector =
+    ap (pick (holding e sector) (found_at i)) (told_from list (i + 1) sector) ∙ told_either (holding e sector) i _
 
-module _ (ys : List Extent) (i s : ℕ) where
-  pub found_here : i < length ys → found_from (drop i ys) i s
-      ≡ pick (holding (get_or ys i no_extent) s) (found_at i) (found_from (drop (i + 1) ys) (i + 1) s)
-  unfolding found_from
-  found_here l = simp (drop-cons ys i no_extent l, add-one)
-
-  -- it holds the sector
-  pub found_hit : i < length ys → T (holding (get_or ys i no_extent) s) → found_from (drop i ys) i s ≡ found_at i
-  found_hit l h = found_here l ∙ pick_yes _ _ _ h
-
-  -- it does not: the search goes on
-  pub found_pass : i < length ys → T (not (holding (get_or ys i no_extent) s)) → found_from (drop i ys) i s
-      ≡ found_from (drop (i + 1) ys) (i + 1) s
-  found_pass l h = found_here l ∙ pick_no _ _ _ h
-
-  -- there is no record i
-  pub found_end : length ys ≤ i → found_from (drop i ys) i s ≡ not_found
-  unfolding found_from
-  found_end l = ap (λ (zs : List Extent). found_from zs i s) (drop_of_length-le ys l)
+pub found_told : (list : List Extent) (sector : ℕ) (r : Option ℕ) → r ≡ position (λ e. holding e sector) list
+    → told r ≡ find_answer list sector
+found_told list sector r e = sym (told_from list 0 sector ∙ ap told (sym (e ∙ position_from-zero _ list)))

@@ -10,28 +10,20 @@ ghost use Rattle.format.specs.Judged.{Sized};
 pub fn capacity_broken(capacity: u64) -> bool
     ensures { result ≡ capacity_broken capacity }
 {
-    (capacity == 0) | (0x80000000 < capacity)
+    capacity == 0 || 0x80000000 < capacity
 }
 
 // Whether n is a power of two up to 2,048.
 fn power(n: u64) -> bool
     ensures { result ≡ power_up_to 11 n }
 {
-    (n == 2048)
-        | ((n == 1024)
-            | ((n == 512)
-                | ((n == 256)
-                    | ((n == 128)
-                        | ((n == 64)
-                            | ((n == 32)
-                                | ((n == 16)
-                                    | ((n == 8) | ((n == 4) | ((n == 2) | (n == 1)))))))))))
+    n.is_power_of_two() && n <= 2048
 }
 
 pub fn grain_size_broken(least: u64, size: u64) -> bool
     ensures { result ≡ grain_size_broken least size }
 {
-    (size < least) | !power(size)
+    size < least || !power(size)
 }
 
 // The grains of an image.
@@ -46,10 +38,7 @@ pub fn grains_of(capacity: u64, grain_size: u64) -> u64
 pub fn entries_in_use(per_table: u64, left: u64) -> u64
     ensures { result ≡ min per_table left }
 {
-    if per_table <= left {
-        return per_table;
-    }
-    left
+    per_table.min(left)
 }
 
 // Directory entries in use, of tables of `per_table` entries.

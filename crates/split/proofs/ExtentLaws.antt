@@ -16,43 +16,46 @@ use Rattle.format.specs.Check.{check}
 use Rattle.format.specs.Source.{sector_lookup}
 use Rattle.format.specs.declared.Source.{Source}
 use Rattle.format.specs.declared.Refusal.{Refusal}
-use Rattle.format.specs.declared.LookupAnswer.{LookupAnswer}
-use Rattle.format.specs.declared.LookupAnswer.TheVariants.{Found as found_in, Refused as lookup_refused}
-use Rattle.format.specs.declared.CheckAnswer.{CheckAnswer}
-use Rattle.format.specs.declared.CheckAnswer.TheVariants.{Accepted, Refused as check_refused}
 use Rattle.disk.specs.Split.{source_in, looked_up, in_accepted}
-use Rattle.disk.specs.declared.SplitAnswer.{SplitAnswer}
-use Rattle.disk.specs.declared.SplitAnswer.TheVariants.{Image, CapacityDiffers}
+use Rattle.std.specs.Prelude.{Result, Ok, Err}
+use Rattle.format.specs.declared.Shape.{Shape}
+use Rattle.format.specs.declared.LayerSource.{LayerSource}
+use Rattle.disk.specs.declared.SplitRefusal.{SplitRefusal}
+use Rattle.format.specs.AnswerParts.{accepted_as}
+use Rattle.disk.specs.declared.SplitRefusal.TheVariants.{Image, CapacityDiffers}
 
 -- ---- at an arm of a match on what the lookup says
-module _ (i : ℕ) (looked : LookupAnswer) where
-  pub looked_found : (source : Source) (z : SplitAnswer) → looked ≡ found_in source → z ≡ source_in i source
+module _ (i : ℕ) (looked : Result Source Refusal) where
+  pub looked_found : (source : Source) (z : Result LayerSource SplitRefusal) → looked ≡ Ok source → z ≡ source_in i source
       → z ≡ looked_up i looked
   unfolding looked_up
   looked_found source z e q = rw e q
 
-  pub looked_refused : (r : Refusal) → looked ≡ lookup_refused r → Image i r ≡ looked_up i looked
+  pub looked_refused : (r : Refusal) → looked ≡ Err r → Err (Image i r) ≡ looked_up i looked
   unfolding looked_up
   looked_refused r e = rw e
 
 -- ---- and on what the check says
-module _ (s : List ℕ) (e : Extent) (i o : ℕ) (judged : CheckAnswer) where
-  pub judged_refused : (r : Refusal) → judged ≡ check_refused r → Image i r ≡ in_accepted s e i o judged
+module _ (s : List ℕ) (e : Extent) (i o : ℕ) (judged : Result Shape Refusal) where
+  pub judged_refused : (r : Refusal) → judged ≡ Err r → Err (Image i r) ≡ in_accepted s e i o judged
   unfolding in_accepted
   judged_refused r q = rw q
 
-  module _ (capacity size : ℕ) (q : judged ≡ Accepted capacity size) where
-    pub judged_same : (z : SplitAnswer) (a : LookupAnswer) → capacity ≡ e.sectors → a ≡ sector_lookup s o → z ≡ looked_up i a
+  module _ (shape : Shape) (q : judged ≡ Ok shape) where
+    pub judged_same : (z : Result LayerSource SplitRefusal) (a : Result Source Refusal) → shape.capacity ≡ e.sectors → a
+        ≡ sector_lookup s o
+        → z ≡ looked_up i a
         → z ≡ in_accepted s e i o judged
     unfolding in_accepted pick
-    judged_same z a h l t = rw (q, eq-eqb capacity e.sectors h, ← l) t
+    judged_same z a h l t = rw (q, eq-eqb shape.capacity e.sectors h, ← l) t
 
-    pub judged_differs : (capacity ≡ e.sectors → ⊥) → CapacityDiffers i ≡ in_accepted s e i o judged
+    pub judged_differs : (shape.capacity ≡ e.sectors → ⊥) → Err (CapacityDiffers i) ≡ in_accepted s e i o judged
     unfolding in_accepted pick
-    judged_differs n = rw (q, ne_eqb capacity e.sectors n)
+    judged_differs n = rw (q, ne_eqb shape.capacity e.sectors n)
 
 -- ---- an image, whose check was asked before
-pub checked_image : (s : List ℕ) (e : Extent) (i o : ℕ) (z : SplitAnswer) (judged : CheckAnswer) → judged ≡ check s
+pub checked_image : (s : List ℕ) (e : Extent) (i o : ℕ) (z : Result LayerSource SplitRefusal) (judged : Result Shape Refusal)
+    → judged ≡ check s
     → z ≡ in_accepted s e i o judged → z ≡ in_accepted s e i o (check s)
 checked_image s e i o z judged q t = rw (← q) t
 

@@ -5,8 +5,8 @@ ghost use Rattle.format.specs.Cowd.{cowd_magic};
 ghost use Rattle.disk.specs.Split.{source_in, in_zero, in_plain, looked_up, in_accepted, in_image, by_type, in_extent};
 
 use descriptor::Extent;
-use disk::SplitAnswer;
-use format::{CheckAnswer, LayerSource, LookupAnswer, Refusal, Source};
+use disk::SplitRefusal;
+use format::{LayerSource, Refusal, Shape, Source};
 
 // Access and types of a record, as the descriptor's definitions number them.
 const NOACCESS: u64 = 3;
@@ -19,56 +19,59 @@ const SPARSE: u64 = 3;
 
 const ZERO: u64 = 5;
 
-fn source_in(i: u64, source: Source) -> SplitAnswer
+fn source_in(i: u64, source: Source) -> Result<LayerSource, SplitRefusal>
     ensures { result ≡ source_in i source }
 {
-    SplitAnswer::Found(LayerSource { layer: i, source })
+    Ok(LayerSource { layer: i, source })
 }
 
 // ZERO has no file: any byte is 45.
-fn in_zero(file: &[u8], i: u64) -> SplitAnswer
+fn in_zero(file: &[u8], i: u64) -> Result<LayerSource, SplitRefusal>
     ensures { result ≡ in_zero file.now i }
 {
     if file.len() == 0 {
         return source_in(i, Source::Zero);
     }
-    SplitAnswer::OtherFile(i)
+    Err(SplitRefusal::OtherFile(i))
 }
 
 // Plain sectors from the offset on.
-fn in_plain(file: &[u8], e: Extent, i: u64, o: u64) -> SplitAnswer
+fn in_plain(file: &[u8], e: Extent, i: u64, o: u64) -> Result<LayerSource, SplitRefusal>
     requires { o < e.sectors }
     ensures { result ≡ in_plain file.now e i o }
 {
     if base::ends_past(e.offset, e.sectors, entries::file_sectors(file)) {
-        return SplitAnswer::OtherFile(i);
+        return Err(SplitRefusal::OtherFile(i));
     }
     source_in(i, Source::Stored(e.offset + o))
 }
 
-fn looked_up(i: u64, looked: LookupAnswer) -> SplitAnswer
+fn looked_up(i: u64, looked: Result<Source, Refusal>) -> Result<LayerSource, SplitRefusal>
     ensures { result ≡ looked_up i looked }
 {
     match looked {
-        LookupAnswer::Found(source) => source_in(i, source),
-        LookupAnswer::Refused(r) => SplitAnswer::Image(i, r),
+        Ok(source) => source_in(i, source),
+        Err(r) => Err(SplitRefusal::Image(i, r)),
     }
 }
 
 // An image whose check came to `judged`.
-fn in_accepted(file: &[u8], e: Extent, i: u64, o: u64, judged: CheckAnswer) -> SplitAnswer
+fn in_accepted(
+    file: &[u8],
+    e: Extent,
+    i: u64,
+    o: u64,
+    judged: Result<Shape, Refusal>,
+) -> Result<LayerSource, SplitRefusal>
     ensures { result ≡ in_accepted file.now e i o judged }
 {
     match judged {
-        CheckAnswer::Refused(r) => SplitAnswer::Image(i, r),
-        CheckAnswer::Accepted {
-            capacity,
-            grain_size: _,
-        } => {
-            if capacity == e.sectors {
+        Err(refusal) => Err(SplitRefusal::Image(i, refusal)),
+        Ok(shape) => {
+            if shape.capacity == e.sectors {
                 return looked_up(i, lookup::lookup(file, o));
             }
-            SplitAnswer::CapacityDiffers(i)
+            Err(SplitRefusal::CapacityDiffers(i))
         }
     }
 }
@@ -84,17 +87,17 @@ fn begins_cowd(file: &[u8]) -> bool
 }
 
 // A KDMV image.
-fn in_image(file: &[u8], e: Extent, i: u64, o: u64) -> SplitAnswer
+fn in_image(file: &[u8], e: Extent, i: u64, o: u64) -> Result<LayerSource, SplitRefusal>
     ensures { result ≡ in_image file.now e i o }
 {
     if begins_cowd(file) {
-        return SplitAnswer::OtherFile(i);
+        return Err(SplitRefusal::OtherFile(i));
     }
     in_accepted(file, e, i, o, accept::check(file))
 }
 
 // VMFSSPARSE, which is left, is COWD: its line alone is refused.
-fn by_type(file: &[u8], e: Extent, i: u64, o: u64) -> SplitAnswer
+fn by_type(file: &[u8], e: Extent, i: u64, o: u64) -> Result<LayerSource, SplitRefusal>
     requires { o < e.sectors }
     ensures { result ≡ by_type file.now e i o }
 {
@@ -107,16 +110,16 @@ fn by_type(file: &[u8], e: Extent, i: u64, o: u64) -> SplitAnswer
     if e.kind == SPARSE {
         return in_image(file, e, i, o);
     }
-    SplitAnswer::Image(i, Refusal::KindGone)
+    Err(SplitRefusal::Image(i, Refusal::KindGone))
 }
 
 // Sector o of extent i, whose file this is.
-pub fn in_extent(file: &[u8], e: Extent, i: u64, o: u64) -> SplitAnswer
+pub fn in_extent(file: &[u8], e: Extent, i: u64, o: u64) -> Result<LayerSource, SplitRefusal>
     requires { o < e.sectors }
     ensures { result ≡ in_extent file.now e i o }
 {
     if e.access == NOACCESS {
-        return SplitAnswer::NoAccess(i);
+        return Err(SplitRefusal::NoAccess(i));
     }
     by_type(file, e, i, o)
 }

@@ -2,8 +2,8 @@
 ghost use Rattle.std.specs.Prelude.{◌≡◌};
 ghost use Rattle.disk.specs.Split.{unsplit, split_numbers};
 
-use disk::SplitAnswer;
-use format::Located;
+use disk::SplitRefusal;
+use format::{LayerRefusal, LayerSource, Located};
 
 fn unsplit(number: u64, extent: u64, place: u64) -> Located
     ensures { result ≡ unsplit number extent place }
@@ -19,20 +19,17 @@ fn unsplit(number: u64, extent: u64, place: u64) -> Located
     }
 }
 
-pub fn split_of(a: SplitAnswer) -> Located
+pub fn split_of(a: Result<LayerSource, SplitRefusal>) -> Located
     ensures { result ≡ split_numbers a }
 {
     match a {
-        SplitAnswer::Found(found) => {
-            let source = found.source;
-            answers::served_of(found.layer, source)
-        }
-        SplitAnswer::Unread(number, place) => unsplit(number, 0, place),
-        SplitAnswer::Lengths => unsplit(24, 0, 0),
-        SplitAnswer::SectorPast => unsplit(20, 0, 0),
-        SplitAnswer::NoAccess(extent) => unsplit(39, extent, 0),
-        SplitAnswer::OtherFile(extent) => unsplit(45, extent, 0),
-        SplitAnswer::Image(extent, refusal) => answers::unserved_of(extent, refusal),
-        SplitAnswer::CapacityDiffers(extent) => unsplit(38, extent, 0),
+        Ok(found) => Located::from(found),
+        Err(SplitRefusal::Unread(number, place)) => unsplit(number, 0, place),
+        Err(SplitRefusal::Lengths) => unsplit(24, 0, 0),
+        Err(SplitRefusal::SectorPast) => unsplit(20, 0, 0),
+        Err(SplitRefusal::NoAccess(extent)) => unsplit(39, extent, 0),
+        Err(SplitRefusal::OtherFile(extent)) => unsplit(45, extent, 0),
+        Err(SplitRefusal::Image(layer, refusal)) => Located::from(LayerRefusal { layer, refusal }),
+        Err(SplitRefusal::CapacityDiffers(extent)) => unsplit(38, extent, 0),
     }
 }

@@ -18,16 +18,15 @@ use Rattle.format.specs.declared.Entry.TheVariants.{Absent, Zero, Sector}
 use Rattle.format.specs.declared.Refusal.{Refusal}
 use Rattle.format.specs.declared.Row.{Row}
 use Rattle.format.specs.declared.Totals.{Totals}
-use Rattle.format.specs.declared.HeaderAnswer.{HeaderAnswer}
-use Rattle.format.specs.declared.HeaderAnswer.TheVariants.{Known, Refused as unknown}
-use Rattle.format.specs.declared.CheckAnswer.{CheckAnswer}
-use Rattle.format.specs.declared.CheckAnswer.TheVariants.{Accepted, Refused}
 use Rattle.kinds.specs.declared.Kinds.{Kinds}
 use Rattle.kinds.specs.Counting.{none, with_many, with_entries, all_of}
 use Rattle.kinds.proofs.Counted.{entries_all}
 use Rattle.format.proofs.Geometry.{grains_few}
 use Rattle.survey.specs.Small.{SmallRow, SmallTotals}
 use Rattle.accept.specs.AcceptedHeader.{accepted_header, Checked}
+use Rattle.std.specs.Prelude.{Result, Ok, Err}
+use Rattle.format.specs.declared.Shape.{Shape}
+use Rattle.format.specs.AnswerParts.{accepted_as}
 
 -- ---- a number that goes up by one at each entry of a kind
 module _ (packed : Bool) (v : ℕ) (f : ℕ → Entry) where
@@ -90,7 +89,7 @@ not_stored (Sector e) = refl
 module _ (s : List ℕ) (h : Header) (k : Kinds) (e : k ≡ with_entries none (grain_entry s h) (grains_of h)) where
   pub row_packed : h.packed ≡ true
       → record { stored = 0; zero = k.zero; absent = k.absent; packed = k.named; number = 0; place = 0 }
-      ≡ row_from s h (Accepted 0 0)
+      ≡ row_from s h (accepted_as 0 0)
   unfolding row_from
   row_packed p =
       let n = grains_of h in
@@ -106,7 +105,7 @@ module _ (s : List ℕ) (h : Header) (k : Kinds) (e : k ≡ with_entries none (g
 
   pub row_stored : h.packed ≡ false
       → record { stored = k.named; zero = k.zero; absent = k.absent; packed = 0; number = 0; place = 0 }
-      ≡ row_from s h (Accepted 0 0)
+      ≡ row_from s h (accepted_as 0 0)
   unfolding row_from
   row_stored p =
       let n = grains_of h in
@@ -158,24 +157,24 @@ small_more t r k row all = record {
 }
 
 -- ---- at the arms of a match on the header of an accepted image
-module _ (s : List ℕ) (a : HeaderAnswer) (e : a ≡ accepted_header (check s) (header_of s)) (r : Row) where
-  refused_from : (c : CheckAnswer) (refusal : Refusal) → accepted_header c (header_of s) ≡ unknown refusal
-      → c ≡ Refused refusal
+module _ (s : List ℕ) (a : Result Header Refusal) (e : a ≡ accepted_header (check s) (header_of s)) (r : Row) where
+  refused_from : (c : Result Shape Refusal) (refusal : Refusal) → accepted_header c (header_of s) ≡ Err refusal
+      → c ≡ Err refusal
   unfolding accepted_header
-  refused_from (Refused other) refusal q = cc
-  refused_from (Accepted c z) refusal q = let n : ◌≡◌ {A = ℕ} 0 1 = cc in absurd (omega arith)
+  refused_from (Err other) refusal q = cc
+  refused_from (Ok sizes) refusal q = let n : ◌≡◌ {A = ℕ} 0 1 = cc in absurd (omega arith)
 
-  pub row_refused : (refusal : Refusal) → a ≡ unknown refusal
+  pub row_refused : (refusal : Refusal) → a ≡ Err refusal
       → r ≡ record { stored = 0; zero = 0; absent = 0; packed = 0; number = number refusal; place = place refusal }
       → r ≡ row_of s
   unfolding row_from
   row_refused refusal q p = rw (refused_from (check s) refusal (sym e ∙ q)) p
 
-  known_from : (c : CheckAnswer) (h : Header) → accepted_header c (header_of s) ≡ Known h
-      → row_from s h (Accepted 0 0) ≡ row_from s (header_of s) c
+  known_from : (c : Result Shape Refusal) (h : Header) → accepted_header c (header_of s) ≡ Ok h
+      → row_from s h (accepted_as 0 0) ≡ row_from s (header_of s) c
   unfolding accepted_header row_from
-  known_from (Refused other) h q = let n : ◌≡◌ {A = ℕ} 0 1 = cc in absurd (omega arith)
-  known_from (Accepted c z) h q = let is : header_of s ≡ h = cc in rw is
+  known_from (Err other) h q = let n : ◌≡◌ {A = ℕ} 0 1 = cc in absurd (omega arith)
+  known_from (Ok sizes) h q = let is : header_of s ≡ h = cc in rw is
 
-  pub row_accepted : (h : Header) → a ≡ Known h → r ≡ row_from s h (Accepted 0 0) → r ≡ row_of s
+  pub row_accepted : (h : Header) → a ≡ Ok h → r ≡ row_from s h (accepted_as 0 0) → r ≡ row_of s
   row_accepted h q p = p ∙ known_from (check s) h (sym e ∙ q)

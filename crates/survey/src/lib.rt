@@ -1,43 +1,39 @@
 // The survey: of each image a row, then the totals and the tally. Nothing is written before both lists are long enough.
 #![tactic(auto)]
 
-ghost use Rattle.std.specs.Prelude.{◌≡◌, ◌+◌, ◌*◌, ◌≤◌, ◌<◌, eqb, length, get_or};
-ghost use Rattle.base.specs.Pick.{pick};
+ghost use Rattle.std.specs.Prelude.{◌≡◌, ◌+◌, ◌*◌, ◌/◌, ◌≤◌, ◌<◌, length, get_or, Ok};
 ghost use Rattle.base.specs.Bytes.{over};
 ghost use Rattle.base.specs.Rows.{tabulate};
 ghost use Rattle.format.specs.Answers.{number, place};
+ghost use Rattle.format.specs.AnswerParts.{accepted_as};
 ghost use Rattle.format.specs.Chain.{layer_at};
 ghost use Rattle.format.specs.Survey.{count_of, row_from, row_of, row_at, row_words, rows_below, add_row, totals_below};
 ghost use Rattle.format.specs.Survey.{surveyed_if_room, survey};
-ghost use Rattle.format.specs.declared.CheckAnswer.TheVariants.{Accepted, Refused};
 ghost use Rattle.lengths.specs.Laid.{Laid, Ends};
 ghost use Rattle.survey.specs.Small.{SmallRow, SmallTotals};
 ghost use Rattle.survey.specs.SurveyTold.{SurveyTold};
-ghost use Rattle.format.specs.declared.SurveyAnswer.TheVariants.{Surveyed};
-ghost use Rattle.framing.specs.WordsPut.{WordsPut};
 ghost use Rattle.accept.specs.AcceptedHeader.{Checked};
 
-use format::{CheckAnswer, Header, HeaderAnswer, Refusal, Row, SurveyAnswer, Totals};
+use format::{Header, Refusal, Row, Totals};
 
 // The row of an image that is refused.
 fn refused_row(refusal: Refusal) -> Row
     ensures { result ≡ record { stored = 0; zero = 0; absent = 0; packed = 0; number = number refusal; place = place refusal } }
 {
-    let told = answers::verdict_of(CheckAnswer::Refused(refusal));
     Row {
         stored: 0,
         zero: 0,
         absent: 0,
         packed: 0,
-        number: told.number,
-        place: told.place,
+        number: refusal.number(),
+        place: refusal.place(),
     }
 }
 
 // The row of an image that is accepted, with its header.
 fn accepted_row(image: &[u8], h: Header) -> Row
     requires { Checked image.now h }
-    ensures { (result ≡ row_from image.now h (Accepted 0 0)) × SmallRow result }
+    ensures { (result ≡ row_from image.now h (accepted_as 0 0)) × SmallRow result }
 {
     let kinds = kinds::grains_by_kind(image, h);
     if h.packed {
@@ -65,15 +61,15 @@ fn row_of(image: &[u8]) -> Row
 {
     let judged = accept::accepted(image);
     match judged {
-        HeaderAnswer::Refused(refusal) => refused_row(refusal),
-        HeaderAnswer::Known(h) => accepted_row(image, h),
+        Err(refusal) => refused_row(refusal),
+        Ok(h) => accepted_row(image, h),
     }
 }
 
-// One row, and where the next one goes.
-fn put_row(list: &mut [u64], at: usize, row: Row) -> usize
+// One row.
+fn put_row(list: &mut [u64], at: usize, row: Row)
     requires { at + length (row_words row) ≤ length list.old }
-    ensures { WordsPut (row_words row) list.old at list.new result }
+    ensures { list.new ≡ over list.old at (row_words row) }
 {
     list[at] = row.stored;
     list[at + 1] = row.zero;
@@ -81,7 +77,6 @@ fn put_row(list: &mut [u64], at: usize, row: Row) -> usize
     list[at + 3] = row.packed;
     list[at + 4] = row.number;
     list[at + 5] = row.place;
-    at + 6
 }
 
 // The row of image k, which starts at byte `start`.
@@ -120,51 +115,34 @@ fn put_rows(images: &[u8], lengths: &[u64], rows: &mut [u64]) -> Totals
         packed: 0,
     };
     let mut start: usize = 0;
-    let mut at: usize = 0;
-    let mut k: usize = 0;
-    while k < lengths.len() {
+    for (k, length) in lengths.iter().enumerate() {
         let row = row_at(images, lengths, k, start);
         totals = with_row(totals, row, k);
-        at = put_row(&mut *rows, at, row);
-        start += lengths[k] as usize;
-        k += 1;
+        put_row(&mut *rows, 6 * k, row);
+        start += *length as usize;
     }
     totals
 }
 
-fn one_if_same(a: u64, b: u64) -> u64
-    ensures { (result ≡ pick (eqb a b) 1 0) × (result ≤ 1) }
-{
-    if a == b {
-        return 1;
-    }
-    0
-}
-
-// How many of the first n rows have a number.
-fn rows_with(rows: &[u64], n: usize, number: u64) -> u64
-    requires { 6 * n ≤ length rows.now }
-    ensures { result ≡ count_of (λ k. get_or rows.now (6 * k + 4) 0) number n }
+// How many of the rows have a number.
+fn rows_with(rows: &[u64], number: u64) -> u64
+    ensures { result ≡ count_of (λ k. get_or rows.now (6 * k + 4) 0) number (length rows.now / 6) }
 {
     let mut count: u64 = 0;
-    let mut k: usize = 0;
-    while k < n {
-        count += one_if_same(rows[6 * k + 4], number);
-        k += 1;
+    for k in 0..rows.len() / 6 {
+        count += u64::from(rows[6 * k + 4] == number);
     }
     count
 }
 
-// The tally of the first n rows.
-fn put_tally(rows: &[u64], n: usize, tally: &mut [u64])
-    requires { (6 * n ≤ length rows.now) × (63 ≤ length tally.old) }
+// The tally of the rows.
+fn put_tally(rows: &[u64], tally: &mut [u64])
+    requires { 63 ≤ length tally.old }
     ensures { tally.new ≡ over tally.old 0
-        (tabulate 63 (λ i. count_of (λ k. get_or rows.now (6 * k + 4) 0) (i + 1) n)) }
+        (tabulate 63 (λ i. count_of (λ k. get_or rows.now (6 * k + 4) 0) (i + 1) (length rows.now / 6))) }
 {
-    let mut i: usize = 0;
-    while i < 63 {
-        tally[i] = rows_with(rows, n, i as u64 + 1);
-        i += 1;
+    for i in 0..63 {
+        tally[i] = rows_with(rows, i as u64 + 1);
     }
 }
 
@@ -173,11 +151,11 @@ fn survey_all(images: &[u8], lengths: &[u64], rows: &mut [u64], tally: &mut [u64
     requires laid { Laid 1024 images.now lengths.now }
     requires lengths_in_bounds { (6 * length lengths.now ≤ length rows.old) × (63 ≤ length tally.old) }
     ensures { SurveyTold images.now lengths.now
-        (Surveyed (totals_below images.now lengths.now (length lengths.now)))
-        rows.old tally.old (Surveyed result) rows.new tally.new }
+        (Ok (totals_below images.now lengths.now (length lengths.now)))
+        rows.old tally.old (Ok result) rows.new tally.new }
 {
     let totals = put_rows(images, lengths, &mut *rows);
-    put_tally(rows, lengths.len(), &mut *tally);
+    put_tally(&rows[..6 * lengths.len()], &mut *tally);
     totals
 }
 
@@ -187,27 +165,32 @@ fn survey_if_room(
     lengths: &[u64],
     rows: &mut [u64],
     tally: &mut [u64],
-) -> SurveyAnswer
+) -> Result<Totals, Refusal>
     requires { Laid 1024 images.now lengths.now }
     ensures { SurveyTold images.now lengths.now
         (surveyed_if_room images.now lengths.now (length rows.old) (length tally.old))
         rows.old tally.old result rows.new tally.new }
 {
     if (rows.len() < 6 * lengths.len()) | (tally.len() < 63) {
-        return SurveyAnswer::Refused(Refusal::TooLittleRoom);
+        return Err(Refusal::TooLittleRoom);
     }
-    SurveyAnswer::Surveyed(survey_all(images, lengths, &mut *rows, &mut *tally))
+    Ok(survey_all(images, lengths, &mut *rows, &mut *tally))
 }
 
 // Up to 1,024 images end to end, with their lengths. Rows are six words an image: stored, zero, absent, packed, number, place.
 // The tally's 63 words are the numbers of images that are refused 1 to 63. Words past these, and all on a refusal, are kept.
-pub fn survey(images: &[u8], lengths: &[u64], rows: &mut [u64], tally: &mut [u64]) -> SurveyAnswer
+pub fn survey(
+    images: &[u8],
+    lengths: &[u64],
+    rows: &mut [u64],
+    tally: &mut [u64],
+) -> Result<Totals, Refusal>
     ensures { SurveyTold images.now lengths.now
         (survey images.now lengths.now (length rows.old) (length tally.old))
         rows.old tally.old result rows.new tally.new }
 {
     if lengths::lengths_broken(1024, images, lengths) {
-        return SurveyAnswer::Refused(Refusal::LayerLengths);
+        return Err(Refusal::LayerLengths);
     }
     survey_if_room(images, lengths, &mut *rows, &mut *tally)
 }

@@ -1,17 +1,17 @@
 -- Directory entries and tables, written in one loop.
-use Prim.Native.Nat.{ℕ, zero, suc, ◌+◌, ◌-◌, ◌*◌, ◌/◌, ◌≤◌, ◌<◌}
-use mathlib.Core.Path.{◌≡◌, refl, ap, ◌∙◌}
+use Prim.Native.Nat.{ℕ, zero, suc, ◌+◌, ◌-◌, ◌*◌, ◌≤◌, ◌<◌}
+use mathlib.Core.Path.{◌≡◌, refl, sym, ap, ◌∙◌}
 use mathlib.Core.List.{List, []}
 use mathlib.Core.Bool.{Bool, true, false}
 use native.Mathlib.Omega.{arith}
 use native.Mathlib.Numerals.{add-one}
 use lib.ListN.{length, length-append}
+use Rattle.std.specs.Prelude.{Option}
 use Rattle.base.specs.Pick.{pick}
 use Rattle.base.specs.Numbers.{le_bytes}
 use Rattle.base.specs.Bytes.{over}
 use Rattle.base.specs.Rows.{rows, entry_bytes}
 use Rattle.base.specs.SumsBelow.{sum_below}
-use Rattle.base.proofs.Numbers.{le_length}
 use Rattle.base.proofs.Over.{over_none, over_length}
 use Rattle.base.proofs.OverApart.{over_swap}
 use Rattle.base.proofs.Rows.{entries_length}
@@ -22,11 +22,12 @@ use Rattle.format.specs.Tail.{has_grains, one_if_table, tables_below, new_tables
 use Rattle.format.specs.Tail.{new_directory_entry}
 use Rattle.format.specs.declared.Header.{Header}
 use Rattle.layout.proofs.EntryRuns.{rows_none, rows_more, entries_more, entries_long}
+use Rattle.walk.specs.Walked.{next_in}
 use Rattle.walk.specs.declared.NextGrain.{NextGrain}
 use Rattle.tail.specs.TailPut.{Walking, Left, table_of, RowReady, RowPut, with_rows}
 use Rattle.tail.specs.declared.Rows.{Rows}
 use Rattle.tail.proofs.TailBytes.{marker_length}
-use Rattle.tail.proofs.TailLeft.{has_yes, has_no, left_later}
+use Rattle.tail.proofs.TailLeft.{has_next, left_later}
 
 -- ---- sizes
 table_length : (l : List KeptGrain) (d : ℕ) → length (table_of l d) ≡ 2560
@@ -55,36 +56,41 @@ tables_within l d n b =
     omega (arith, q)
 
 -- ---- one row
-module _ (s : List ℕ) (h : Header) (end directory tables d room : ℕ) (c : NextGrain)
-    (ready : RowReady s h directory tables d room c) where
-  pub table_fits : c.number / 512 ≡ d → 2560 * tables + 2560 ≤ directory
+module _ (s : List ℕ) (h : Header) (end directory tables d room : ℕ) (next : Option NextGrain)
+    (ready : RowReady s h directory tables d room next) (b : Bool) (is : b ≡ next_in next d) where
+  has : has_grains (kept_grains s h) d ≡ b
+  has = has_next s h ready.walking d next ready.left ∙ sym is
+
+  pub table_fits : b ≡ true → 2560 * tables + 2560 ≤ directory
   unfolding pick
-  table_fits e = omega (arith, rw (has_yes s h ready.walking d ready.few c ready.left e) at ready.fits)
+  table_fits e = omega (arith, rw (has, e) at ready.fits)
 
-  pub row_yes : (x y before : List ℕ) (next : NextGrain) → c.number / 512 ≡ d
-      → x ≡ over before (2560 * tables) (table_of (kept_grains s h) d) → Left s h (512 * d + 512) next
+  pub row_yes : (x y before : List ℕ) (r : Option NextGrain) → b ≡ true
+      → x ≡ over before (2560 * tables) (table_of (kept_grains s h) d) → Left s h (512 * d + 512) r
       → y ≡ over x (directory + 4 * d) (le_bytes 4 (end + 5 * tables + 1))
-      → RowPut s h end directory tables d (record { tables = tables + 1; next = next }) before y
+      → RowPut s h end directory tables d (record { tables = tables + 1; next = r }) before y
   unfolding table_parts pick
-  row_yes x y before next e p l q =
-      let has = has_yes s h ready.walking d ready.few c ready.left e in
-      record { left = l; counted = rw has; bytes = q ∙ rw (has, p, ← ready.below) }
+  row_yes x y before r e p l q = record {
+    left = l;
+    counted = rw (has, e);
+    bytes = q ∙ rw (has, e, p, ← ready.below);
+  }
 
-  pub row_no : (y before : List ℕ) → (c.number / 512 ≡ d → ⊥) → y ≡ over before (directory + 4 * d) (le_bytes 4 0)
-      → RowPut s h end directory tables d (record { tables = tables; next = c }) before y
+  pub row_no : (y before : List ℕ) (r : Rows) → b ≡ false → y ≡ over before (directory + 4 * d) (le_bytes 4 0)
+      → r ≡ record { tables = tables; next = next } → RowPut s h end directory tables d r before y
   unfolding table_parts pick
-  row_no y before n q =
-      let has = has_no s h ready.walking d ready.few c ready.left n in
-      record {
-        left = left_later s h ready.walking d ready.few c ready.left n;
-        counted = rw has (omega arith);
-        bytes = q ∙ rw (has, ← over_none before (2560 * tables));
-      }
+  row_no y before r e q z =
+      rw z
+      (record {
+        left = left_later s h ready.walking d next ready.left (sym is ∙ e);
+        counted = rw (has, e) (omega arith);
+        bytes = q ∙ rw (has, e, ← over_none before (2560 * tables));
+      })
 
 -- ---- the loop: after d directory entries
 pub record Done (s : List ℕ) (h : Header) (end directory : ℕ) (before : List ℕ) (d : ℕ) (out : List ℕ) (tables : ℕ)
-    (c : NextGrain) : Type 0 where
-  pub left : Left s h (512 * d) c
+    (next : Option NextGrain) : Type 0 where
+  pub left : Left s h (512 * d) next
   pub below : tables ≡ tables_below (kept_grains s h) d
   pub same : length out ≡ length before
   pub bytes : out ≡ with_rows (kept_grains s h) end directory d before
@@ -95,21 +101,21 @@ module _ (s : List ℕ) (h : Header) (w : Walking s h) (end directory n : ℕ) (
   abbrev l : List KeptGrain
   l = kept_grains s h
 
-  pub done_none : (c : NextGrain) → Left s h 0 c → Done s h end directory before 0 before 0 c
+  pub done_none : (next : Option NextGrain) → Left s h 0 next → Done s h end directory before 0 before 0 next
   unfolding sum_below
-  done_none c a = record {
+  done_none next a = record {
     left = a;
     below = refl;
     same = refl;
     bytes = rows_none _ before 0 ∙ rows_none _ _ directory;
   }
 
-  module _ (d : ℕ) (b : d < n) (xs : List ℕ) (tables : ℕ) (c : NextGrain)
-      (k : Done s h end directory before d xs tables c) where
+  module _ (d : ℕ) (b : d < n) (xs : List ℕ) (tables : ℕ) (next : Option NextGrain)
+      (k : Done s h end directory before d xs tables next) where
     within : 2560 * (tables_below l d + one_if_table l d) ≤ directory
     within = omega (arith, rw (← is) at fits, tables_within l d n b)
 
-    pub row_ready : RowReady s h directory tables d (length xs) c
+    pub row_ready : RowReady s h directory tables d (length xs) next
     row_ready = record {
       walking = w;
       left = k.left;
@@ -162,6 +168,6 @@ module _ (s : List ℕ) (h : Header) (w : Walking s h) (end directory n : ℕ) (
             bytes = bytes;
           }
 
-  pub done_all : (d : ℕ) (xs : List ℕ) (tables : ℕ) (c : NextGrain) → Done s h end directory before d xs tables c → d ≤ n
-      → n ≤ d → xs ≡ with_rows l end directory n before
-  done_all d xs tables c k a b = let q : d ≡ n = omega arith in rw q at k.bytes
+  pub done_all : (d : ℕ) (xs : List ℕ) (tables : ℕ) (next : Option NextGrain) → Done s h end directory before d xs tables next
+      → d ≡ n → xs ≡ with_rows l end directory n before
+  done_all d xs tables next k q = rw q at k.bytes

@@ -1,5 +1,5 @@
 -- What the functions that write the tail say of its parts and of what is left of the walk.
-use Rattle.std.specs.Prelude.{ℕ, ◌+◌, ◌*◌, ◌≤◌, ◌≡◌, List, [], ◌∷◌}
+use Rattle.std.specs.Prelude.{ℕ, ◌+◌, ◌*◌, ◌≤◌, ◌≡◌, List, [], ◌∷◌, Option}
 use Rattle.base.specs.Numbers.{le_bytes}
 use Rattle.base.specs.Bytes.{over, zeros}
 use Rattle.base.specs.Rows.{rows, all_of, entry_bytes}
@@ -18,11 +18,11 @@ pub record Walking (s : List ℕ) (h : Header) : Type 0 where
   pub some : 1 ≤ file_sectors s
   pub starts : overhead s ≤ file_sectors s
 
--- what the kept grains say from grain g on is what is left from c on says
-pub record Left (s : List ℕ) (h : Header) (g : ℕ) (c : NextGrain) : Type 0 where
-  pub standing : Standing s h g c
-  pub entries : (i : ℕ) → g ≤ i → kept_entry (kept_grains s h) i ≡ kept_entry (rest_of s h c) i
-  pub tables : (d : ℕ) → g ≤ 512 * d → has_grains (kept_grains s h) d ≡ has_grains (rest_of s h c) d
+-- what the kept grains say from grain g on is what is left from the next grain on says
+pub record Left (s : List ℕ) (h : Header) (g : ℕ) (next : Option NextGrain) : Type 0 where
+  pub standing : Standing s h g next
+  pub entries : (i : ℕ) → g ≤ i → kept_entry (kept_grains s h) i ≡ kept_entry (rest_of s h next) i
+  pub tables : (d : ℕ) → g ≤ 512 * d → has_grains (kept_grains s h) d ≡ has_grains (rest_of s h next) d
 
 -- the entries of n grains from g on, and a table with its marker
 abbrev pub entries_from : List KeptGrain → ℕ → ℕ → List ℕ
@@ -33,9 +33,9 @@ table_of l d = all_of (marker_bytes 4 1 ∷ entry_bytes 512 (new_entry l d) ∷ 
 
 -- ---- a directory entry and its table, if it has one: the tables stand from byte 0 on, the directory from `directory` on
 -- what is asked, of an output of `room` bytes
-pub record RowReady (s : List ℕ) (h : Header) (directory tables d room : ℕ) (c : NextGrain) : Type 0 where
+pub record RowReady (s : List ℕ) (h : Header) (directory tables d room : ℕ) (next : Option NextGrain) : Type 0 where
   pub walking : Walking s h
-  pub left : Left s h (512 * d) c
+  pub left : Left s h (512 * d) next
   pub below : tables ≡ tables_below (kept_grains s h) d
   pub fits : 2560 * (tables + one_if_table (kept_grains s h) d) ≤ directory
   pub space : directory + 4 * d + 4 ≤ room

@@ -13,13 +13,13 @@ ghost use Rattle.tail.specs.TailPut.{Walking, Left, entries_from, table_of, RowR
 
 use format::Header;
 use sizes::directory_entries;
-use walk::{Counted, NextGrain, next_grain, overhead};
+use walk::{Counted, NextGrain, next_grain, next_in, overhead};
 
-// The tables written, and the next grain.
+// The tables written, and the next grain, if there is one.
 #[derive(Clone, Copy)]
 pub struct Rows {
     pub tables: u64,
-    pub next: NextGrain,
+    pub next: Option<NextGrain>,
 }
 
 // A marker's sector: its first number, size 0 and its type.
@@ -27,24 +27,35 @@ fn put_marker(out: &mut [u8], at: usize, first: u64, kind: u64)
     requires { at + 512 ≤ length out.old }
     ensures { out.new ≡ over out.old at (marker_bytes first kind) }
 {
-    base::put_u64(&mut *out, at, first);
-    base::put_u32(&mut *out, at + 8, 0);
-    base::put_u32(&mut *out, at + 12, kind);
+    base::put_number::<8>(&mut *out, at, first);
+    base::put_number::<4>(&mut *out, at + 8, 0);
+    base::put_number::<4>(&mut *out, at + 12, kind);
     base::fill(&mut *out, at + 16, 496);
 }
 
-// The entry of grain g, to byte `at`; c is the next grain from g on, and what is handed back from g + 1 on.
-fn put_entry(out: &mut [u8], at: usize, image: &[u8], h: Header, c: NextGrain, g: u64) -> NextGrain
-    requires { Walking image.now h × (at + 4 ≤ length out.old) × (g < no_grain) × Left image.now h g c }
+// The entry of grain g, to byte `at`; `next` is the next grain from g on, and what is handed back from g + 1 on.
+fn put_entry(
+    out: &mut [u8],
+    at: usize,
+    image: &[u8],
+    h: Header,
+    next: Option<NextGrain>,
+    g: u64,
+) -> Option<NextGrain>
+    requires { Walking image.now h × (at + 4 ≤ length out.old) × (g < no_grain) × Left image.now h g next }
     ensures { (out.new ≡ over out.old at (le_bytes 4 (kept_entry (kept_grains image.now h) g)))
         × Left image.now h (g + 1) result }
 {
-    if c.number == g {
-        base::put_u32(&mut *out, at, c.sector);
-        return next_grain(image, h, c.sector + c.sectors, g + 1);
+    match next {
+        Some(c) if c.number == g => {
+            base::put_number::<4>(&mut *out, at, c.sector);
+            next_grain(image, h, c.sector + c.sectors, g + 1)
+        }
+        _ => {
+            base::put_number::<4>(&mut *out, at, 0);
+            next
+        }
     }
-    base::put_u32(&mut *out, at, 0);
-    c
 }
 
 // The entries of the table whose first grain is g.
@@ -53,58 +64,69 @@ fn put_entries(
     at: usize,
     image: &[u8],
     h: Header,
-    first: NextGrain,
+    first: Option<NextGrain>,
     g: u64,
-) -> NextGrain
+) -> Option<NextGrain>
     requires { Walking image.now h × (at + 2048 ≤ length out.old) × (g + 512 ≤ no_grain) × Left image.now h g first }
     ensures { (out.new ≡ over out.old at (entries_from (kept_grains image.now h) g 512))
         × Left image.now h (g + 512) result }
 {
-    let mut c = first;
-    let mut k: u64 = 0;
-    while k < 512 {
-        c = put_entry(&mut *out, at + 4 * (k as usize), image, h, c, g + k);
-        k += 1;
+    let mut next = first;
+    for k in 0..512 {
+        next = put_entry(&mut *out, at + 4 * k, image, h, next, g + k as u64);
     }
-    c
+    next
 }
 
 // The table of directory entry d, with its marker.
-fn put_table(out: &mut [u8], at: usize, image: &[u8], h: Header, c: NextGrain, d: u64) -> NextGrain
-    requires { Walking image.now h × (at + 2560 ≤ length out.old) × (d ≤ 0x80000000) × Left image.now h (512 * d) c }
+fn put_table(
+    out: &mut [u8],
+    at: usize,
+    image: &[u8],
+    h: Header,
+    next: Option<NextGrain>,
+    d: u64,
+) -> Option<NextGrain>
+    requires { Walking image.now h × (at + 2560 ≤ length out.old) × (d ≤ 0x80000000) × Left image.now h (512 * d) next }
     ensures { (out.new ≡ over out.old at (table_of (kept_grains image.now h) d))
         × Left image.now h (512 * d + 512) result }
 {
     put_marker(&mut *out, at, 4, 1);
-    put_entries(&mut *out, at + 512, image, h, c, 512 * d)
+    put_entries(&mut *out, at + 512, image, h, next, 512 * d)
 }
 
-// Directory entry d, and its table if it has grains. `end` is the sector where the tail starts.
+// Directory entry d, and its table if it has grains; the rows before it are done. `end` is the sector where the tail starts.
 fn put_row(
     out: &mut [u8],
     directory: u64,
     end: u64,
     image: &[u8],
     h: Header,
-    tables: u64,
-    c: NextGrain,
+    rows: Rows,
     d: u64,
 ) -> Rows
-    requires row_ready { RowReady image.now h directory tables d (length out.old) c }
+    requires row_ready { RowReady image.now h directory rows.tables d (length out.old) rows.next }
     requires end_bound { end ≤ 0x80000000000000 }
-    ensures { RowPut image.now h end directory tables d result out.old out.new }
+    ensures { RowPut image.now h end directory rows.tables d result out.old out.new }
 {
     let at = (directory + 4 * d) as usize;
-    if c.number / 512 == d {
-        let next = put_table(&mut *out, (2560 * tables) as usize, image, h, c, d);
-        base::put_u32(&mut *out, at, end + 5 * tables + 1);
+    if next_in(rows.next, d) {
+        let next = put_table(
+            &mut *out,
+            (2560 * rows.tables) as usize,
+            image,
+            h,
+            rows.next,
+            d,
+        );
+        base::put_number::<4>(&mut *out, at, end + 5 * rows.tables + 1);
         return Rows {
-            tables: tables + 1,
+            tables: rows.tables + 1,
             next,
         };
     }
-    base::put_u32(&mut *out, at, 0);
-    Rows { tables, next: c }
+    base::put_number::<4>(&mut *out, at, 0);
+    rows
 }
 
 // All n directory entries in use, and the tables of those with grains.
@@ -113,15 +135,12 @@ fn put_rows(out: &mut [u8], directory: u64, end: u64, image: &[u8], h: Header, n
     requires h_bound { (2560 * new_tables h (kept_grains image.now h) ≤ directory) × (directory + 4 * n ≤ length out.old) }
     ensures { out.new ≡ with_rows (kept_grains image.now h) end directory n out.old }
 {
-    let mut c = next_grain(image, h, overhead(image), 0);
-    let mut tables: u64 = 0;
-    let mut d: u64 = 0;
-    while d < n {
-        let row = put_row(&mut *out, directory, end, image, h, tables, c, d);
-        let next = row.next;
-        tables = row.tables;
-        c = next;
-        d += 1;
+    let mut rows = Rows {
+        tables: 0,
+        next: next_grain(image, h, overhead(image), 0),
+    };
+    for d in 0..n {
+        rows = put_row(&mut *out, directory, end, image, h, rows, d);
     }
 }
 
@@ -132,7 +151,7 @@ fn put_last(out: &mut [u8], at: usize, image: &[u8], directory: u64)
 {
     put_marker(&mut *out, at, 0, 3);
     base::copy(&mut *out, at + 512, image, 56);
-    base::put_u64(&mut *out, at + 568, directory);
+    base::put_number::<8>(&mut *out, at + 568, directory);
     base::copy(&mut *out, at + 576, &image[64..], 448);
     base::fill(&mut *out, at + 1024, 512);
 }

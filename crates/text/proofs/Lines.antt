@@ -14,11 +14,14 @@ use lib.Seq.{drop-drop}
 use borrow.Author.Tests.{eq-eqb, ne_eqb, lt-ltb, le-ltb}
 use Rattle.base.specs.Pick.{pick}
 use Rattle.base.proofs.Steps.{lt_or_ge}
+use Rattle.std.specs.Prelude.{Result, Ok, Err}
+use Rattle.descriptor.specs.declared.TextRefusal.{TextRefusal}
+use Rattle.descriptor.specs.declared.Parsed.{Parsed}
 use Rattle.descriptor.specs.declared.State.{State}
 use Rattle.descriptor.specs.declared.Stop.TheVariants.{Byte}
 use Rattle.descriptor.specs.Words.{count_before}
 use Rattle.descriptor.specs.Text.{Span, lines_from, lines}
-use Rattle.descriptor.specs.Descriptor.{start, step, ended, judged}
+use Rattle.descriptor.specs.Descriptor.{start, step, ended, unless_refused, judged}
 
 -- ---- the first of the lines that are left
 -- a line that ends at `to`, and the lines of w after it, where there are any
@@ -79,20 +82,22 @@ module _ (text : List ℕ) (st : State) (from : ℕ) where
   unfolding lines_at pick
   left_start e z = rw (e, z, le-ltb (length text) 0 (omega arith))
 
-  module _ (to : ℕ) (s : State) (l : Left) (h : from ≤ length text) (e : to ≡ from + count_before (Byte 0x0a) (drop from text))
-      (k : to ≤ length text) (q : s ≡ step text st (record { from = from; to = to })) where
-    left_step : judged text start (lines text) ≡ pick (eqb s.number 0) (judged text s (lines_at text (to + 1))) s
+  module _ (to : ℕ) (l : Left) (h : from ≤ length text) (e : to ≡ from + count_before (Byte 0x0a) (drop from text))
+      (k : to ≤ length text) where
+    left_step : (r : Result State TextRefusal) → r ≡ step text st (record { from = from; to = to })
+        → judged text start (lines text) ≡ unless_refused r (λ s. judged text s (lines_at text (to + 1)))
     unfolding judged
-    left_step = l ∙ rw (lines_more text from to h e k, ← q)
+    left_step r q = l ∙ rw (lines_more text from to h e k, ← q)
 
-    pub left_more : s.number ≡ 0 → judged text start (lines text) ≡ judged text s (lines_at text (to + 1))
-    unfolding pick
-    left_more z = left_step ∙ rw (eq-eqb _ _ z)
+    pub left_more : (s : State) → Ok s ≡ step text st (record { from = from; to = to })
+        → judged text start (lines text) ≡ judged text s (lines_at text (to + 1))
+    left_more s q = left_step (Ok s) q
 
-    pub left_stop : (s.number ≡ 0 → ⊥) → s ≡ judged text start (lines text)
-    unfolding pick
-    left_stop z = sym (left_step ∙ rw (ne_eqb _ _ z))
+    pub left_stop : (r : TextRefusal) → Err r ≡ step text st (record { from = from; to = to })
+        → Err r ≡ judged text start (lines text)
+    left_stop r q = sym (left_step (Err r) q)
 
-  pub left_end : (r : State) → Left → length text < from → r ≡ ended st → r ≡ judged text start (lines text)
+  pub left_end : (r : Result Parsed TextRefusal) → Left → length text < from → r ≡ ended st
+      → r ≡ judged text start (lines text)
   unfolding lines_at pick judged
   left_end r l h e = rw (l, lt-ltb (length text) from h) e

@@ -1,49 +1,41 @@
 // The end of a text: what only all lines together can tell.
 ghost use Rattle.std.specs.Prelude.{◌≡◌};
-ghost use Rattle.descriptor.specs.Descriptor.{missing, extents_bad, judged_end, ended};
-ghost use Rattle.text.specs.StateBounds.{Few};
+ghost use Rattle.descriptor.specs.Descriptor.{judged_end, ended};
+ghost use Rattle.text.specs.StateBounds.{parsed_after};
 
-use super::state::refused;
-use descriptor::State;
+use descriptor::{Described, State, TextRefusal};
 
-// One of version, CID, parentCID and createType did not come.
-fn missing(st: &State) -> bool
-    ensures { result ≡ missing st.now.values }
+// All required keys came. Then there are 1 to 32 extents, and their sum is at most 2^31.
+#[tactic(auto, unfolding(descriptor::specs::Descriptor::judged_end, base::specs::Pick::pick))]
+fn judged_end(st: &State) -> Result<Described, TextRefusal>
+    ensures { parsed_after result st.now ≡ judged_end st.now }
 {
-    (st.values[1] == words::NO_VALUE)
-        | ((st.values[2] == words::NO_VALUE)
-            | ((st.values[3] == words::NO_VALUE) | (st.values[4] == words::NO_VALUE)))
-}
-
-// No extent, over 32, or a sum above 2^31.
-fn extents_bad(st: &State) -> bool
-    ensures { result ≡ extents_bad st.now }
-{
-    (st.extents == 0) | ((32 < st.extents) | (0x80000000 < st.sum))
-}
-
-// Missing keys are judged before the extents' number and sum.
-fn judged_end(st: &mut State)
-    requires { Few 65537 st.old }
-    ensures { st.new ≡ judged_end st.old }
-{
-    if missing(&*st) {
-        refused(33, 0, &mut *st);
-        return;
+    let version = st.version.ok_or(TextRefusal::KeyMissing)?;
+    let cid = st.cid.ok_or(TextRefusal::KeyMissing)?;
+    let parent_cid = st.parent_cid.ok_or(TextRefusal::KeyMissing)?;
+    let create_type = st.create_type.ok_or(TextRefusal::KeyMissing)?;
+    if st.extents == 0 || 32 < st.extents || 0x80000000 < st.sum {
+        return Err(TextRefusal::BadExtents);
     }
-    if extents_bad(&*st) {
-        refused(35, 0, &mut *st);
-    }
+    Ok(Described {
+        number: 0,
+        place: 0,
+        extents: st.extents,
+        version,
+        cid,
+        parent_cid,
+        type_at: create_type.at,
+        type_length: create_type.length,
+    })
 }
 
 // After the last line; where all were empty, the first line is missing.
-pub fn ended(st: &mut State)
-    requires { Few 65537 st.old }
-    ensures { st.new ≡ ended st.old }
+#[tactic(auto, unfolding(descriptor::specs::Descriptor::ended, base::specs::Pick::pick))]
+pub fn ended(st: &State) -> Result<Described, TextRefusal>
+    ensures { parsed_after result st.now ≡ ended st.now }
 {
-    if st.begun {
-        judged_end(&mut *st);
-        return;
+    if !st.begun {
+        return Err(TextRefusal::NoFirstLine);
     }
-    refused(30, 0, &mut *st);
+    judged_end(st)
 }

@@ -2,115 +2,96 @@
 // the names of their definitions in the crate `descriptor`.
 #![tactic(auto)]
 
-ghost use Rattle.std.specs.Prelude.{◌≡◌, ◌+◌, ◌≤◌, length};
+ghost use Rattle.std.specs.Prelude.{◌≡◌, ◌+◌, ◌≤◌, length, OnOk};
 ghost use Rattle.descriptor.specs.Text.{lines};
-ghost use Rattle.descriptor.specs.Line.{line};
-ghost use Rattle.descriptor.specs.Descriptor.{start, refused, taken, judged_line, step, judged, read_text};
-ghost use Rattle.descriptor.specs.Records.{parsed};
+ghost use Rattle.descriptor.specs.Descriptor.{start, judged_line, step, judged, read_text};
 ghost use Rattle.lines.specs.LineBounds.{Within};
-ghost use Rattle.text.specs.StateBounds.{Few};
+ghost use Rattle.text.specs.StateBounds.{Few, state_after, parsed_after};
 
-use descriptor::{Parsed, State, Stop};
+use descriptor::{Described, Parsed, State, Stop, TextRefusal};
 
-pub mod answers;
 mod end;
 mod state;
 
-// A line after the first one that is not empty: an extent's first sector is the sum so far.
-fn taken_line(st: &mut State, end: u64, w: &[u8])
+// The trimmed line w, which ends at the place `end`. After the first one that is not empty, an extent's first sector is the
+// sum so far.
+#[tactic(auto, unfolding(descriptor::specs::Descriptor::judged_line, base::specs::Pick::pick))]
+fn judged_line(st: &mut State, end: u64, w: &[u8]) -> Result<(), TextRefusal>
     requires few { Few 65536 st.old }
     requires within { Within end w.now }
-    ensures { (st.new ≡ taken st.old (line st.old.sum end w.now)) × Few (st.old.line + 1) st.new }
-{
-    let l = lines::line(st.sum, end, w);
-    state::taken(&mut *st, l);
-}
-
-// The trimmed line w, which ends at the place `end`.
-fn judged_line(st: &mut State, end: u64, w: &[u8])
-    requires few { Few 65536 st.old }
-    requires within { Within end w.now }
-    ensures { (st.new ≡ judged_line st.old end w.now) × Few (st.old.line + 1) st.new }
+    ensures said { state_after result st.new ≡ judged_line st.old end w.now }
+    ensures few { OnOk result (Few (st.old.line + 1) st.new) }
 {
     if st.begun {
-        taken_line(&mut *st, end, w);
-        return;
+        let said = lines::line(st.sum, end, w);
+        return state::taken(st, said);
     }
-    if w.len() == 0 {
-        state::skipped(&mut *st);
-        return;
+    if w.is_empty() {
+        state::skipped(st);
+        return Ok(());
     }
     if base::same_word(w, b"# disk descriptorfile") {
-        state::opened(&mut *st);
-        return;
+        state::opened(st);
+        return Ok(());
     }
-    state::refused(30, 0, &mut *st);
+    Err(TextRefusal::NoFirstLine)
 }
 
 // The line from a place of the text to another.
-fn step(text: &[u8], st: &mut State, from: usize, to: usize)
+#[tactic(auto, unfolding(descriptor::specs::Descriptor::step))]
+fn step(text: &[u8], st: &mut State, from: usize, to: usize) -> Result<(), TextRefusal>
     requires few { Few 65536 st.old }
     requires from_le_to { (from ≤ to) × (to ≤ length text.now) × (length text.now ≤ 65536) }
-    ensures { (st.new ≡ step text.now st.old (record { from = from; to = to })) × Few (st.old.line + 1) st.new }
+    ensures said { state_after result st.new ≡ step text.now st.old (record { from = from; to = to }) }
+    ensures few { OnOk result (Few (st.old.line + 1) st.new) }
 {
     let w = words::trim_end(&text[from..to]);
-    judged_line(&mut *st, (from + w.len()) as u64, words::trim_start(w));
+    judged_line(st, (from + w.len()) as u64, words::trim_start(w))
 }
 
-// Line by line, each scanned for its end once.
-fn judged(text: &[u8]) -> State
-    requires { length text.now ≤ 65536 }
-    ensures { result ≡ judged text.now start (lines text.now) }
+// Line by line, each scanned for its end once: a turn goes as far as its line, which no range counts and whose place it needs.
+fn judged(text: &[u8], st: &mut State) -> Result<Described, TextRefusal>
+    requires short { length text.now ≤ 65536 }
+    requires begins { st.old ≡ start }
+    requires few { Few 0 st.old }
+    ensures { parsed_after result st.new ≡ judged text.now start (lines text.now) }
 {
-    let mut st = state::start();
     let mut from = 0;
     while from <= text.len() {
         let to = words::line_end(text, from);
-        step(text, &mut st, from, to);
-        if st.number != 0 {
-            return st;
-        }
+        step(text, st, from, to)?;
         from = to + 1;
     }
-    end::ended(&mut st);
-    st
+    end::ended(st)
 }
 
-// A refusal before any line is read.
-fn refused_first(number: u64) -> State
-    ensures { result ≡ refused number 0 start }
-{
-    let mut st = state::start();
-    state::refused(number, 0, &mut st);
-    st
-}
-
-// What a descriptor's bytes say, where they are not too many: the text is all up to the first zero byte, and from there on only
-// zero bytes may follow.
-fn read_short(s: &[u8]) -> State
-    requires { length s.now ≤ 65536 }
-    ensures { result ≡ read_text s.now }
-{
-    let tail = words::rest(s, Stop::Byte(0));
-    if words::count_before(tail, Stop::NotByte(0)) == tail.len() {
-        return judged(words::before(s, Stop::Byte(0)));
-    }
-    refused_first(31)
-}
-
-// 36 comes before a byte is read: the bytes may be a whole disk's.
-fn read_text(s: &[u8]) -> State
-    ensures { result ≡ read_text s.now }
+// What a descriptor's bytes say: the text is all up to the first zero byte, and from there on only zero bytes may follow. 36
+// comes before a byte is read: the bytes may be a whole disk's.
+#[tactic(auto, unfolding(descriptor::specs::Descriptor::read_text, base::specs::Pick::pick))]
+fn read_text(s: &[u8], st: &mut State) -> Result<Described, TextRefusal>
+    requires begins { st.old ≡ start }
+    requires few { Few 0 st.old }
+    ensures { parsed_after result st.new ≡ read_text s.now }
 {
     if 65536 < s.len() {
-        return refused_first(36);
+        return Err(TextRefusal::TextTooLong);
     }
-    read_short(s)
+    let tail = words::rest(s, Stop::Byte(0));
+    if words::count_before(tail, Stop::NotByte(0)) != tail.len() {
+        return Err(TextRefusal::ByteAfterZero);
+    }
+    judged(words::before(s, Stop::Byte(0)), st)
 }
 
 // What a descriptor's bytes come to: its records, by value, and the answer.
-pub fn parse(s: &[u8]) -> Parsed
-    ensures { result ≡ parsed s.now }
+pub fn parse(s: &[u8]) -> Result<Parsed, TextRefusal>
+    ensures { result ≡ read_text s.now }
 {
-    answers::handed(read_text(s))
+    let mut st = state::start();
+    let answer = read_text(s, &mut st)?;
+    Ok(Parsed {
+        records: st.records,
+        count: st.extents as usize,
+        answer,
+    })
 }

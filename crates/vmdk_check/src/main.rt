@@ -4,29 +4,23 @@
 use format::Verdict;
 use std::io;
 
-fn put_two(rt: &impl Print, a: u64, b: u64) -> io::Result<()> {
-    println!(rt; "{a} {b}")
-}
-
 fn tell(rt: &impl Print, v: Verdict) -> io::Result<()> {
     if v.number == 0 {
-        rt.write_all(b"accepted ")?;
-        return put_two(rt, v.capacity, v.grain_size);
+        println!(rt; "accepted {} {}", v.capacity, v.grain_size)
+    } else {
+        println!(rt; "refused {} {}", v.number, v.place)
     }
-    rt.write_all(b"refused ")?;
-    put_two(rt, v.number, v.place)
 }
 
 // 37 where a byte is left after the buffer was filled.
 fn main(rt: HostRuntime) -> io::Result<()> {
     let mut input = rt.reader();
-    let mut buffer = [0u8; 65536];
+    let mut buffer = [0; 65536];
     let n = programs::read_full(&mut input, &mut buffer)?;
-    let mut more = [0u8; 1];
+    let mut more = [0];
     let left = programs::read_full(&mut input, &mut more)?;
     if 0 < left {
-        return rt.write_all(b"refused 37 0\n");
+        return println!(rt; "refused 37 0");
     }
-    let all: &[u8] = &buffer;
-    tell(&rt, answers::verdict_of(accept::check(&all[..n])))
+    tell(&rt, Verdict::from(accept::check(&buffer[..n])))
 }

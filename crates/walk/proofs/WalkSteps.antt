@@ -1,11 +1,9 @@
 -- A step of the walk, as the code takes it, and what is left from the next grain on.
-use Prim.Native.Nat.{ℕ, suc, ◌+◌, ◌-◌, ◌≤◌, ◌<◌}
-use mathlib.Core.Path.{◌≡◌, sym, ap, ◌∙◌}
+use Prim.Native.Nat.{ℕ, suc, ◌+◌, ◌≤◌}
+use mathlib.Core.Path.{◌≡◌, sym, ◌∙◌}
 use mathlib.Core.List.{List}
 use native.Mathlib.Omega.{arith}
-use lib.Dec.{ltb}
-use borrow.Author.Tests.{lt-ltb}
-use Rattle.base.specs.Pick.{pick}
+use Rattle.std.specs.Prelude.{None, Some}
 use Rattle.format.specs.Geometry.{file_sectors}
 use Rattle.format.specs.Stream.{block_at, walk_on, walk, walk_from}
 use Rattle.format.specs.declared.Header.{Header}
@@ -13,7 +11,8 @@ use Rattle.format.specs.declared.closing.Block.{Block}
 use Rattle.format.specs.declared.closing.Block.TheVariants.{Stop, Other, Grain}
 use Rattle.format.proofs.StreamKept.{Told, block_told, walk_enough}
 use Rattle.format.proofs.Geometry.{grains_few, entry_used}
-use Rattle.walk.specs.Walked.{Walkable, no_grain, rest_of, Next}
+use Rattle.walk.specs.Walked.{Walkable, rest_of, GrainFrom, Next}
+use Rattle.walk.specs.declared.NextGrain.{NextGrain}
 
 module _ (s : List ℕ) (h : Header) (w : Walkable h) (p next : ℕ) where
   step : walk_from s h p next ≡ walk_on (block_at s h p next) p next (walk_from s h)
@@ -34,27 +33,26 @@ module _ (s : List ℕ) (h : Header) (w : Walkable h) (p next : ℕ) where
 
     -- the first grain from sector q on is what stands at p
     module _ (q : ℕ) (left : walk_from s h p next ≡ walk_from s h q next) where
-      pub stop_next : next ≤ no_grain → b ≡ Stop → Next s h q next (record { number = no_grain; sector = 0; sectors = 0 })
-      unfolding rest_of walk_on pick
-      stop_next l z = record {
-        standing = record { low = l; high = omega arith; used = λ b. absurd (omega arith); here = omega arith };
+      pub stop_next : b ≡ Stop → Next s h q next None
+      unfolding rest_of walk_on
+      stop_next z = record {
+        standing = record { grain = λ c e. cc };
         is = sym (step ∙ rw (← e, z)) ∙ left;
       }
 
-      pub grain_next : (g k : ℕ) → b ≡ Grain g k → Next s h q next (record { number = g; sector = p; sectors = k })
-      unfolding rest_of walk_on pick
+      pub grain_next : (g k : ℕ) → b ≡ Grain g k → Next s h q next (Some (record { number = g; sector = p; sectors = k }))
+      unfolding rest_of walk_on
       grain_next g k z =
           let t : Told s h p next (Grain g k) = rw z at told in
           let small = grains_few h.capacity h.grain_size w.sizes.low in
-          let low : g < no_grain = omega (arith, t.1.used, w.sizes.small) in
+          let c : NextGrain = record { number = g; sector = p; sectors = k } in
+          let here : GrainFrom s h next c = record {
+            low = t.0;
+            high = omega (arith, t.1.used, w.sizes.small);
+            used = rw w.table (entry_used h.capacity h.grain_size w.sizes.low 512 (omega arith) g t.1.used);
+            here = t.1.here;
+          } in
           record {
-            standing = record {
-              low = t.0;
-              high = omega arith;
-              used =
-                  λ b. rw w.table
-                  (entry_used h.capacity h.grain_size w.sizes.low 512 (omega arith) g t.1.used);
-              here = t.1.here;
-            };
-            is = rw (lt-ltb g no_grain low) (sym (step ∙ rw (← e, z)) ∙ left);
+            standing = record { grain = λ r e. let i : c ≡ r = cc in rw i at here };
+            is = sym (step ∙ rw (← e, z)) ∙ left;
           }

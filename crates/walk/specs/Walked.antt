@@ -1,6 +1,5 @@
 -- What the functions of the walk say of what is left of it.
-use Rattle.std.specs.Prelude.{ℕ, ◌+◌, ◌/◌, ◌≤◌, ◌<◌, ◌≡◌, List, [], ◌∷◌, ltb, length}
-use Rattle.base.specs.Pick.{pick}
+use Rattle.std.specs.Prelude.{ℕ, ◌+◌, ◌/◌, ◌≤◌, ◌<◌, ◌≡◌, List, [], ◌∷◌, Bool, false, eqb, length, Option, None, Some}
 use Rattle.format.specs.Geometry.{file_sectors}
 use Rattle.format.specs.Judged.{Sized}
 use Rattle.format.specs.Header.{directory_entries_of}
@@ -21,22 +20,30 @@ abbrev pub no_grain : ℕ
 no_grain = 0x8000000000000000
 
 -- what is left of the walk, from its next grain on
-unfoldable pub rest_of : List ℕ → Header → NextGrain → List KeptGrain
-rest_of s h c =
-    pick (ltb c.number no_grain)
-    (kept_grain c.number c.sector c.sectors ∷ walk_from s h (c.sector + c.sectors) (c.number + 1)) []
+unfoldable pub rest_of : List ℕ → Header → Option NextGrain → List KeptGrain
+rest_of s h None = []
+rest_of s h (Some c) = kept_grain c.number c.sector c.sectors ∷ walk_from s h (c.sector + c.sectors) (c.number + 1)
 
--- c is the next grain from number g on
-pub record Standing (s : List ℕ) (h : Header) (g : ℕ) (c : NextGrain) : Type 0 where
+-- whether directory entry d has the next grain
+abbrev pub next_in : Option NextGrain → ℕ → Bool
+next_in None d = false
+next_in (Some c) d = eqb (c.number / 512) d
+
+-- c is a grain, of number g at least
+pub record GrainFrom (s : List ℕ) (h : Header) (g : ℕ) (c : NextGrain) : Type 0 where
   pub low : g ≤ c.number
-  pub high : c.number ≤ no_grain
-  pub used : c.number < no_grain → c.number / 512 < directory_entries_of h
+  pub high : c.number < no_grain
+  pub used : c.number / 512 < directory_entries_of h
   pub here : c.sector + c.sectors ≤ file_sectors s
 
--- what is left from sector p and number `next` on
-pub record Next (s : List ℕ) (h : Header) (p next : ℕ) (c : NextGrain) : Type 0 where
-  pub standing : Standing s h next c
-  pub is : rest_of s h c ≡ walk_from s h p next
+-- the next grain, if there is one, is of number g at least
+pub record Standing (s : List ℕ) (h : Header) (g : ℕ) (next : Option NextGrain) : Type 0 where
+  pub grain : (c : NextGrain) → next ≡ Some c → GrainFrom s h g c
+
+-- what is left from sector p and number g on
+pub record Next (s : List ℕ) (h : Header) (p g : ℕ) (next : Option NextGrain) : Type 0 where
+  pub standing : Standing s h g next
+  pub is : rest_of s h next ≡ walk_from s h p g
 
 -- the kept sectors and grains, and the tables that name them
 pub record Tallied (s : List ℕ) (h : Header) (t : Counted) : Type 0 where

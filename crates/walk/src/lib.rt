@@ -1,21 +1,17 @@
 // The walk over the blocks of a stream: markers are read, a payload never.
 #![tactic(auto)]
 
-ghost use Rattle.std.specs.Prelude.{◌≡◌, ◌*◌, ◌/◌, ◌≤◌, ◌<◌, eqb};
-ghost use Rattle.base.specs.Pick.{pick};
+ghost use Rattle.std.specs.Prelude.{◌≡◌, ◌≤◌, ◌<◌};
 ghost use Rattle.format.specs.Geometry.{file_sectors};
 ghost use Rattle.format.specs.Stream.{overhead, if_whole, out_of_order, stream_grain, stream_other, block_at};
 ghost use Rattle.format.specs.declared.closing.Block.TheVariants.{Other};
-ghost use Rattle.walk.specs.Walked.{Walkable, no_grain, Next, Tallied};
+ghost use Rattle.walk.specs.Walked.{Walkable, Next, next_in, Tallied};
 
 use entries::{file_sectors, grain_sectors, marker_size};
 use format::Header;
 use format::closing::Block;
 
-// Above the number of every grain.
-const NO_GRAIN: u64 = 0x8000000000000000;
-
-// The next grain that is kept: its marker's sector, and how many sectors it takes. NO_GRAIN is the number of none.
+// The next grain that is kept: its marker's sector, and how many sectors it takes.
 #[derive(Clone, Copy)]
 pub struct NextGrain {
     pub number: u64,
@@ -45,7 +41,7 @@ fn stream_other(image: &[u8], h: Header, p: u64) -> Block
     requires { Walkable h × (p < file_sectors image.now) }
     ensures { result ≡ stream_other image.now h p }
 {
-    let kind = base::u32_at(image, (512 * p + 12) as usize);
+    let kind = base::number_at::<4>(image, (512 * p + 12) as usize);
     if kind == 1 {
         return other_block(image, p, 5);
     }
@@ -71,7 +67,7 @@ fn stream_grain(image: &[u8], h: Header, p: u64, next: u64) -> Block
     if base::ends_past(p, whole, file_sectors(image)) {
         return Block::Stop;
     }
-    let first = base::u64_at(image, (512 * p) as usize);
+    let first = base::number_at::<8>(image, (512 * p) as usize);
     if out_of_order(h, next, first) {
         return Block::Stop;
     }
@@ -95,30 +91,22 @@ fn block_at(image: &[u8], h: Header, p: u64, next: u64) -> Block
 }
 
 // Tables and directories between grains are stepped over.
-pub fn next_grain(image: &[u8], h: Header, p: u64, next: u64) -> NextGrain
-    requires { Walkable h × (next ≤ no_grain) }
+pub fn next_grain(image: &[u8], h: Header, p: u64, next: u64) -> Option<NextGrain>
+    requires { Walkable h }
     ensures { Next image.now h p next result }
 {
     let mut at = p;
     loop {
         let block = block_at(image, h, at, next);
         match block {
-            Block::Stop => {
-                return NextGrain {
-                    number: NO_GRAIN,
-                    sector: 0,
-                    sectors: 0,
-                };
-            }
-            Block::Other(sectors) => {
-                at += sectors;
-            }
+            Block::Stop => return None,
+            Block::Other(sectors) => at += sectors,
             Block::Grain { number, sectors } => {
-                return NextGrain {
+                return Some(NextGrain {
                     number,
                     sector: at,
                     sectors,
-                };
+                });
             }
         }
     }
@@ -129,17 +117,14 @@ pub fn overhead(image: &[u8]) -> u64
     requires { 1 ≤ file_sectors image.now }
     ensures { result ≡ overhead image.now }
 {
-    base::u64_at(image, 64)
+    base::number_at::<8>(image, 64)
 }
 
-// 1 where grain g, before that of number `after`, is the last of its table, else 0.
-fn ends_table(g: u64, after: u64) -> u64
-    ensures { (result ≡ pick (eqb (after / 512) (g / 512)) 0 1) × (result ≤ 1) }
+// Whether there is a next grain, and it has its entry in the table of directory entry d.
+pub fn next_in(next: Option<NextGrain>, d: u64) -> bool
+    ensures { result ≡ next_in next d }
 {
-    if after / 512 == g / 512 {
-        return 0;
-    }
-    1
+    next.is_some_and(|c| c.number / 512 == d)
 }
 
 // All that is kept.
@@ -148,16 +133,14 @@ pub fn count(image: &[u8], h: Header) -> Counted
     ensures { Tallied image.now h result }
 {
     let mut sectors = overhead(image);
-    let mut c = next_grain(image, h, sectors, 0);
+    let mut next = next_grain(image, h, sectors, 0);
     let mut grains: u64 = 0;
     let mut tables: u64 = 0;
-    while c.number < NO_GRAIN {
-        let end = c.sector + c.sectors;
-        let after = next_grain(image, h, end, c.number + 1);
-        sectors = end;
+    while let Some(c) = next {
+        sectors = c.sector + c.sectors;
+        next = next_grain(image, h, sectors, c.number + 1);
         grains += 1;
-        tables += ends_table(c.number, after.number);
-        c = after;
+        tables += u64::from(!next_in(next, c.number / 512));
     }
     Counted {
         sectors,

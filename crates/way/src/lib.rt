@@ -7,7 +7,7 @@ ghost use Rattle.format.specs.declared.Entry.TheVariants.{Sector};
 ghost use Rattle.format.specs.Judged.{Sound};
 
 use format::steps::Way;
-use format::{Entry, Header, HeaderAnswer};
+use format::{Entry, Header};
 
 fn no_way() -> Way
     ensures { result ≡ no_way }
@@ -114,7 +114,7 @@ pub fn way(image: &[u8], sector: u64) -> Way
 {
     let judged = header::judge(image);
     match judged {
-        HeaderAnswer::Refused(r) => no_way(),
-        HeaderAnswer::Known(h) => way_in(image, h, sector),
+        Err(r) => no_way(),
+        Ok(h) => way_in(image, h, sector),
     }
 }

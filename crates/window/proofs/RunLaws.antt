@@ -1,8 +1,8 @@
 -- Runs of marking, put together as calls follow each other.
 use Prim.Native.Nat.{ℕ, ◌+◌, ◌*◌, ◌-◌, ◌^◌, ◌≤◌, ◌<◌}
-use mathlib.Core.Path.{◌≡◌, refl, ◌∙◌}
-use mathlib.Core.List.{List, [], ◌∷◌, ◌++◌}
-use mathlib.Core.Bool.{Bool, true, false, not, true≢false, false≢true}
+use mathlib.Core.Path.{◌≡◌, refl}
+use mathlib.Core.List.{List, [], ◌∷◌}
+use mathlib.Core.Bool.{Bool, true, false, not}
 use native.Mathlib.Omega.{arith}
 use lib.ListN.{length}
 use Rattle.base.specs.Pick.{pick}
@@ -10,26 +10,7 @@ use Rattle.format.specs.Areas.{Area, area, if_there}
 use Rattle.marks.specs.Marks.{Free, Marking}
 use Rattle.marks.proofs.BitRuns.{put_none}
 use Rattle.window.specs.Run.{clip, low, high, Run, done, next, met}
-
--- ---- two runs
-module _ {lo : ℕ} where
-  pub run_length : {ws ys : List ℕ} {l : List Area} {r : Bool} → Run lo ws l ys r → length ys ≡ length ws
-  run_length done = refl
-  run_length (next f p g) = run_length g ∙ p.size
-  run_length (met t) = refl
-
-  pub run_more : {ws xs ys : List ℕ} {l m : List Area} {q r : Bool} → Run lo ws l xs q → q ≡ false → Run lo xs m ys r
-      → Run lo ws (l ++ m) ys r
-  run_more done e h = h
-  run_more (next f p g) e h = next f p (run_more g e h)
-  run_more (met t) e h = absurd (true≢false e)
-
-  -- one that met a marked sector is one of any longer list
-  pub run_stop : {ws xs : List ℕ} {l : List Area} {q : Bool} (m : List Area) → Run lo ws l xs q → q ≡ true
-      → Run lo ws (l ++ m) xs true
-  run_stop m done e = absurd (false≢true e)
-  run_stop m (next f p g) e = next f p (run_stop m g e)
-  run_stop m (met t) e = met t
+use Rattle.window.specs.TakenRuns.{run_more, run_stop}
 
 -- ---- one area, as the code clips it
 module _ (lo first count from end : ℕ) (ws : List ℕ) (f : from ≡ clip lo ws first) (e : end ≡ clip lo ws (first + count)) where

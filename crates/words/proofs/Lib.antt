@@ -1,3 +1,2 @@
 pub mod WordRuns
-pub mod WordParts
 pub mod Numerals

@@ -1,6 +1,6 @@
 -- Laws of numbers, as the loop over their digits goes through them; and that they have room in 64 bits.
 use Prim.Native.Nat.{ℕ, ◌+◌, ◌*◌, ◌^◌, ◌<◌, ◌≤◌}
-use mathlib.Core.Path.{◌≡◌, ◌∙◌}
+use mathlib.Core.Path.{◌≡◌, sym, ◌∙◌}
 use mathlib.Core.List.{List}
 use native.Mathlib.Omega.{arith}
 use native.Mathlib.Nat.{pow-succ', mul-le-mul_right, pow-le-pow_right, lt_of_lt_of_le}
@@ -11,30 +11,35 @@ use lib.Seq.{drop-cons}
 use mir.Syntax.{w64}
 use mir.Val.{Fits}
 use borrow.Author.Tests.{lt-ltb, le-ltb}
+use Rattle.std.specs.Prelude.{None, Some, option_and_then}
 use Rattle.base.specs.Pick.{pick}
-use Rattle.descriptor.specs.Words.{digit_value, no_value, numeral_from}
+use Rattle.descriptor.specs.Words.{digit_value, numeral_from}
 
 -- ---- from the byte i on, n being what the digits before it make
 module _ (base : ℕ) (w : List ℕ) (n i : ℕ) where
   abbrev pub Digits : Type 0
   Digits = numeral_from base 0 w ≡ numeral_from base n (drop i w)
 
-  digits_step : i < length w
-      → numeral_from base n (drop i w) ≡ pick (ltb (digit_value (get_or w i 0)) base)
-      (numeral_from base (base * n + digit_value (get_or w i 0)) (drop (i + 1) w)) no_value
+  digits_step : i < length w → numeral_from base n (drop i w) ≡ option_and_then
+      (λ d. pick (ltb d base) (numeral_from base (base * n + d) (drop (i + 1) w)) None)
+      (digit_value (get_or w i 0))
   unfolding numeral_from
   digits_step h = simp (drop-cons w i 0 h, add-one)
 
-  module _ (d : ℕ) (e : d ≡ digit_value (get_or w i 0)) (l : Digits) (h : i < length w) where
-    pub digits_bad : base ≤ d → no_value ≡ numeral_from base 0 w
-    unfolding pick
-    digits_bad b = rw (l, digits_step h, ← e, le-ltb d base b)
+  module _ (l : Digits) (h : i < length w) where
+    pub digits_none : digit_value (get_or w i 0) ≡ None → None ≡ numeral_from base 0 w
+    digits_none e = sym (l ∙ rw (digits_step h, e))
 
-    pub digits_more : d < base → numeral_from base 0 w ≡ numeral_from base (base * n + d) (drop (i + 1) w)
-    unfolding pick
-    digits_more b = l ∙ rw (digits_step h, ← e, lt-ltb d base b)
+    module _ (d : ℕ) (e : digit_value (get_or w i 0) ≡ Some d) where
+      pub digits_bad : base ≤ d → None ≡ numeral_from base 0 w
+      unfolding pick
+      digits_bad b = sym (l ∙ rw (digits_step h, e, le-ltb d base b))
 
-  pub digits_all : Digits → length w ≤ i → n ≡ numeral_from base 0 w
+      pub digits_more : d < base → numeral_from base 0 w ≡ numeral_from base (base * n + d) (drop (i + 1) w)
+      unfolding pick
+      digits_more b = l ∙ rw (digits_step h, e, lt-ltb d base b)
+
+  pub digits_all : Digits → length w ≤ i → Some n ≡ numeral_from base 0 w
   unfolding numeral_from
   digits_all l h = rw (l, drop_of_length-le w h)
 

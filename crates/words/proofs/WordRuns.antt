@@ -1,67 +1,66 @@
--- Laws of runs of bytes, as loops go through them: what is left says the same as the whole. Premises are what the code knows
--- there.
-use Prim.Native.Nat.{ℕ, suc, ◌+◌, ◌-◌, ◌<◌, ◌≤◌}
-use mathlib.Core.Path.{◌≡◌, sym, ap, ◌∙◌}
-use mathlib.Core.List.{List}
-use mathlib.Core.Bool.{Bool, true, false}
-use native.Mathlib.Omega.{arith}
-use native.Mathlib.Nat.{add-zero}
-use native.Mathlib.Numerals.{add-one}
-use lib.ListN.{get_or, length, drop, drop_of_length-le}
-use lib.Seq.{drop-cons}
+-- Laws of runs of bytes, as the searches from either end tell them.
+use Rattle.std.proofs.Common.{◌≡◌, ℕ, zero, suc, ◌+◌, ◌<◌, ◌≤◌, List, [], ◌∷◌, length, true, false, Option, None, Some}
+use Rattle.std.proofs.Common.{refl, sym, ◌∙◌, arith}
+use Rattle.std.specs.Prelude.{unwrap_or}
+use Rattle.std.specs.List.{AllWithin, HoldsAt, slice_index}
+use Rattle.std.specs.Option.{MatchOption, IfSome}
+use Rattle.std.proofs.lemmas.Iterator.{index_from_first}
+use borrow.Author.Tests.{eq-eqb, ne_eqb}
 use Rattle.base.specs.Pick.{pick}
+use Rattle.base.proofs.Steps.{cond_all, lt_or_ge}
+use mathlib.Core.Logic.{⊎_elim}
 use Rattle.descriptor.specs.declared.Stop.{Stop}
-use Rattle.descriptor.specs.declared.Stop.TheVariants.{NotTrimmed}
-use Rattle.descriptor.specs.Words.{stops, count_before, kept}
+use Rattle.descriptor.specs.declared.Stop.TheVariants.{Byte, NotTrimmed}
+use Rattle.descriptor.specs.Words.{quote, stops, count_before, kept, to_quote_at, to_quote}
 
--- at an arm of a match: what is known of the enum, put where the enum stands
-pub stops_as : (z : Bool) (r v : Stop) (x : ℕ) → r ≡ v → z ≡ stops v x → z ≡ stops r x
-stops_as z r v x e t = t ∙ ap (λ (s : Stop). stops s x) (sym e)
+-- the first at which a run stops, counted from 0
+pub run_length : (stop : Stop) (w : List ℕ) (r : Option ℕ)
+    → MatchOption r (AllWithin (λ x. stops stop x ≡ false) w 0 (length w))
+    (λ i. (i < length w) × HoldsAt (λ x. stops stop x ≡ true) w i × AllWithin (λ x. stops stop x ≡ false) w 0 i)
+    → count_before stop w ≡ unwrap_or r (length w)
+unfolding count_before pick
+run_length stop w r h =
+    index_from_first (count_before stop) (λ x. stops stop x ≡ true) (λ x. stops stop x ≡ false) refl
+    (λ x xs e. rw e) (λ x xs e. rw e) w r h
 
--- ---- from the byte i on
-module _ (stop : Stop) (w : List ℕ) (i : ℕ) where
-  abbrev pub Run : Type 0
-  Run = count_before stop w ≡ i + count_before stop (drop i w)
+pub run_inside : (stop : Stop) (w : List ℕ) → count_before stop w ≤ length w
+unfolding count_before
+run_inside stop [] = omega arith
+run_inside stop (x ∷ w) =
+    cond_all (λ n. n ≤ suc (length w)) _ _ _ (λ e. omega arith) (λ e. omega (arith, run_inside stop w))
 
-  run_step : i < length w → count_before stop (drop i w)
-      ≡ pick (stops stop (get_or w i 0)) 0 (count_before stop (drop (i + 1) w) + 1)
-  unfolding count_before
-  run_step h = simp (drop-cons w i 0 h, add-one)
+-- no value where the run goes to the end
+pub quote_first : (w : List ℕ) (r : Option ℕ)
+    → MatchOption r (AllWithin (λ x. stops (Byte quote) x ≡ false) w 0 (length w))
+    (λ i. (i < length w) × HoldsAt (λ x. stops (Byte quote) x ≡ true) w i
+    × AllWithin (λ x. stops (Byte quote) x ≡ false) w 0 i)
+    → (r ≡ to_quote w) × IfSome r (λ n. n < length w)
+unfolding to_quote_at pick
+quote_first w None h = (rw (run_length (Byte quote) w None h, eq-eqb (length w) (length w) refl), tt)
+quote_first w (Some i) h =
+    (rw (run_length (Byte quote) w (Some i) h, ne_eqb i (length w) (λ e. omega (arith, h.0))), h.0)
 
-  module _ {r : Bool} (l : Run) (h : i < length w) (e : r ≡ stops stop (get_or w i 0)) where
-    pub run_here : r ≡ true → i ≡ count_before stop w
-    unfolding pick
-    run_here t = rw (l, run_step h, ← e, t, add-zero)
+-- ---- the end, trimmed: of the first n bytes, those up to the last that is not trimmed
+module _ (w : List ℕ) where
+  kept_none : (n : ℕ) → ((k : ℕ) → k < n → stops NotTrimmed (slice_index w k) ≡ false) → kept w n ≡ 0
+  unfolding kept pick
+  kept_none zero h = refl
+  kept_none (suc n) h = rw (h n (omega arith)) (kept_none n (λ k l. h k (omega arith)))
 
-    pub run_more : r ≡ false → count_before stop w ≡ (i + 1) + count_before stop (drop (i + 1) w)
-    unfolding pick
-    run_more f = l ∙ rw (run_step h, ← e, f) (omega arith)
+  kept_some : (n i : ℕ) → i < n → ((k : ℕ) → i < k → k < n → stops NotTrimmed (slice_index w k) ≡ false)
+      → stops NotTrimmed (slice_index w i) ≡ true → kept w n ≡ i + 1
+  unfolding kept pick
+  kept_some zero i l h e = absurd (omega arith)
+  kept_some (suc n) i l h e =
+      ⊎_elim (λ b. rw (h n b (omega arith)) (kept_some n i (omega arith) (λ k a b. h k a (omega arith)) e))
+      (λ (b : n ≤ i). let q : n ≡ i = omega arith in rw (q, e) (omega arith)) (lt_or_ge i n)
 
-  pub run_end : Run → length w ≤ i → i ≡ count_before stop w
-  unfolding count_before
-  run_end l h = rw (l, drop_of_length-le w h, add-zero)
-
--- ---- the end, trimmed: of the first n bytes
-module _ (w : List ℕ) (n : ℕ) where
-  abbrev pub Kept : Type 0
-  Kept = kept w (length w) ≡ kept w n
-
-  kept_last : (m : ℕ) → n ≡ suc m → kept w n ≡ pick (stops NotTrimmed (get_or w m 0)) n (kept w m)
-  unfolding kept
-  kept_last m e = rw e
-
-  kept_step : 0 < n → kept w n ≡ pick (stops NotTrimmed (get_or w (n - 1) 0)) n (kept w (n - 1))
-  kept_step h = kept_last (n - 1) (omega arith)
-
-  module _ {r : Bool} (l : Kept) (h : 0 < n) (e : r ≡ stops NotTrimmed (get_or w (n - 1) 0)) where
-    pub kept_here : r ≡ true → n ≡ kept w (length w)
-    unfolding pick
-    kept_here t = rw (l, kept_step h, ← e, t)
-
-    pub kept_less : r ≡ false → kept w (length w) ≡ kept w (n - 1)
-    unfolding pick
-    kept_less f = l ∙ rw (kept_step h, ← e, f)
-
-  pub kept_none : Kept → n ≤ 0 → n ≡ kept w (length w)
-  unfolding kept
-  kept_none l h = let e : n ≡ 0 = omega arith in rw (l, e)
+  -- the last such byte, searched from the end
+  pub kept_last : (r : Option ℕ) (n : ℕ)
+      → MatchOption r ((k : ℕ) → k < length w → stops NotTrimmed (slice_index w k) ≡ false)
+      (λ i. (i < length w) × ((k : ℕ) → i < k → k < length w → stops NotTrimmed (slice_index w k) ≡ false)
+      × (stops NotTrimmed (slice_index w i) ≡ true))
+      → MatchOption r (n ≡ 0) (λ i. n ≡ i + 1)
+      → (n ≡ kept w (length w)) × (n ≤ length w)
+  kept_last None n h e = (e ∙ sym (kept_none (length w) h), omega arith)
+  kept_last (Some i) n h e = (e ∙ sym (kept_some (length w) i h.0 h.1 h.2), omega arith)

@@ -16,7 +16,7 @@ use Rattle.format.specs.declared.Header.{Header}
 use Rattle.format.specs.Judged.{Sized}
 use Rattle.layout.proofs.GrainsDone.{Room, Done, entry_room, done_room, done_more}
 use Rattle.layers.specs.declared.GrainSource.{GrainSource}
-use Rattle.layers.specs.TwoLayers.{source_from, grain_at, layered, length_of, Layers, Standing}
+use Rattle.layers.specs.TwoLayers.{source_from, grain_at, layered, Layers, Standing}
 use Rattle.writer.specs.Put.{Ready, Put}
 use Rattle.layers.proofs.Sources.{standing, source_grain, full}
 

@@ -42,7 +42,7 @@ fn put_stored(
     ensures { Put (stored (clip capacity size g (drop (512 * e) image.now))) size at next result out.old
         out.new }
 {
-    base::put_u32(&mut *out, at, next);
+    base::put_number::<4>(&mut *out, at, next);
     let here = (512 * next) as usize;
     let from = (512 * e) as usize;
     layout::write_grain(&mut out[here..], &image[from..], capacity, size, g);
@@ -68,11 +68,11 @@ fn put_grain(
 {
     match source {
         GrainSource::Absent => {
-            base::put_u32(&mut *out, at, 0);
+            base::put_number::<4>(&mut *out, at, 0);
             next
         }
         GrainSource::Zero => {
-            base::put_u32(&mut *out, at, 1);
+            base::put_number::<4>(&mut *out, at, 1);
             next
         }
         GrainSource::Lower(e) => put_stored(&mut *out, at, next, lower, e, capacity, size, g),
@@ -90,8 +90,7 @@ fn write_grains(out: &mut [u8], kind: Kind, lower: &[u8], h: Header, upper: &[u8
     let all = grains_of(h.capacity, h.grain_size);
     let table = 512 * tables_at(kind, h.capacity, h.grain_size);
     let mut next = sector_v(kind, h.capacity, h.grain_size);
-    let mut g: u64 = 0;
-    while g < all {
+    for g in 0..all {
         let source = source_of(lower, h, upper, k, g);
         next = put_grain(
             &mut *out,
@@ -104,7 +103,6 @@ fn write_grains(out: &mut [u8], kind: Kind, lower: &[u8], h: Header, upper: &[u8
             h.grain_size,
             g,
         );
-        g += 1;
     }
 }
 

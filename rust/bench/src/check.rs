@@ -127,6 +127,6 @@ fn measure_one(setup: &Setup, input: &Input, report: &mut Report) -> Outcome {
 fn the_window_is_the_crates() -> io::Result<()> {
     let package = std::path::Path::new(env!("CARGO_MANIFEST_DIR"));
     let source = std::fs::read_to_string(package.join("../../crates/overlap/src/lib.rt"))?;
-    assert!(source.contains(&format!("lo += {WINDOW};")));
+    assert!(source.contains(&format!("window_meets(image, {WINDOW} * w, ")));
     Ok(())
 }

@@ -67,6 +67,6 @@ mod tests {
         let source = std::fs::read_to_string(package.join("../../crates/overlap/src/lib.rt"));
         assert!(source
             .expect("a crate")
-            .contains(&format!("lo += {WINDOW};")));
+            .contains(&format!("window_meets(image, {WINDOW} * w, ")));
     }
 }

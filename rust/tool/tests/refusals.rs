@@ -81,18 +81,24 @@ fn behind(text: &str, words: &[&str]) -> Numbers {
         .collect()
 }
 
+/// Numbers at the end of lines that begin with one of these words.
+fn cases(text: &str, words: &[&str]) -> Numbers {
+    text.lines()
+        .filter(|line| words.iter().any(|word| line.starts_with(word)))
+        .filter_map(|line| line.rsplit(' ').next()?.parse().ok())
+        .collect()
+}
+
 /// What the definitions of images, disks and texts and the small program say.
 #[test]
 fn every_number_has_its_row() {
     let images = read("crates/format/specs/Answers.antt");
-    let cases = images.lines().filter(|line| line.starts_with("number "));
-    let mut defined: Numbers = cases
-        .filter_map(|line| line.rsplit(' ').next()?.parse().ok())
-        .collect();
+    let mut defined = cases(&images, &["number "]);
     assert!(defined.len() >= 24, "{defined:?}");
     defined.extend(behind(&read("crates/disk/specs/Split.antt"), &["unsplit"]));
     let texts = read_all("crates/descriptor/specs", ".antt");
-    defined.extend(behind(&texts, &["refused", "refusal", "Fault", "number"]));
+    defined.extend(cases(&texts, &["line_number ", "text_number "]));
+    defined.extend(behind(&texts, &["refusal", "number"]));
     defined.extend(behind(
         &read_all("crates/vmdk_check/src", ".rt"),
         &["refused"],

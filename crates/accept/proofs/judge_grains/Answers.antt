@@ -7,9 +7,9 @@ pub judge_markers-requires : goal.judge_markers-requires
 unfolding check_grains
 judge_markers-requires c = search filed_of
 
-pub returns-in-Grain : goal.returns-in-Grain
+pub returns-in-Some : goal.returns-in-Some
 unfolding check_grains
-returns-in-Grain c = search past_found
+returns-in-Some c = search past_found
 
 pub returns-in-None : goal.returns-in-None
 unfolding check_grains

@@ -1,15 +1,15 @@
-use mathlib.Core.Path.{refl}
-use borrow.Author.Rules.{rules}
+-- `fill`: the part that was lent holds zeros now.
+use Prim.Native.Nat.{ℕ}
+use mathlib.Core.Path.{◌≡◌, ◌∙◌, ap}
 use native.Mathlib.Omega.{arith}
+use lib.ListN.{replicate, length-take, length-drop}
 use Rattle.base.specs.Bytes.{zeros}
-use Rattle.base.proofs.Over.{zeros_none, fill_more, over_all}
+use Rattle.base.proofs.Over.{over_part, zeros_length}
 use Rattle.base.proofs.fill.Goals as goal
 
-pub loop-i-init : goal.loop-i-init
-loop-i-init c = (search rules, refl, zeros_none _ _)
-
-pub loop-i-preserved : goal.loop-i-preserved
-loop-i-preserved c = (search rules, search rules, search (fill_more, rules))
-
 pub returns : goal.returns
-returns c = over_all _ _ _ _ zeros _ c.loop-i.invariant.2 (omega arith) (omega arith)
+unfolding zeros
+returns c = let a = c.args in
+    let e : c.fill.new.self ≡ zeros a.n = c.fill.ensures.after (λ y h. h)
+    ∙ ap (λ (k : ℕ). replicate k 0) (simp (length-take, length-drop) (omega arith)) in
+    rw e (over_part a.out.now (zeros a.n) a.at _ (omega (arith, zeros_length a.n)))

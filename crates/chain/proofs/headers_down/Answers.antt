@@ -2,8 +2,8 @@ use Rattle.chain.proofs.Down.{next_fits, next_ends, header_refused, header_known
 use Rattle.chain.proofs.Down.{headers_end}
 use Rattle.chain.proofs.headers_down.Goals as goal
 
-pub returns-in-Refused : goal.returns-in-Refused
-returns-in-Refused c = search header_refused
+pub returns-in-Err : goal.returns-in-Err
+returns-in-Err c = search header_refused
 
 pub overflow_sub-end : goal.overflow_sub-end
 overflow_sub-end c = search next_fits

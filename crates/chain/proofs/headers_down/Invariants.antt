@@ -11,6 +11,3 @@ invariant-loop-k l =
     × HeadedFrom l.layers l.lengths l.k
     × (headers_down l.layers l.lengths (length l.lengths) (walk l.layers l.lengths l.sector)
     ≡ headers_down l.layers l.lengths l.k (walk l.layers l.lengths l.sector))
-
-abbrev pub decreases-loop-k : goal.decreases-loop-k
-decreases-loop-k l = l.k

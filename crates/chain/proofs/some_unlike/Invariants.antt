@@ -11,6 +11,3 @@ invariant-loop-k l =
     Ends l.layers l.lengths l.k l.end
     × (any_below (λ j. unlike l.first (header_of (layer_at l.layers l.lengths j))) (length l.lengths)
     ≡ any_below (λ j. unlike l.first (header_of (layer_at l.layers l.lengths j))) l.k)
-
-abbrev pub decreases-loop-k : goal.decreases-loop-k
-decreases-loop-k l = l.k

@@ -2,9 +2,9 @@ use Rattle.chain.proofs.Down.{step_as, step_found}
 use Rattle.chain.specs.LayerSteps.{step_of}
 use Rattle.chain.proofs.step_of.Goals as goal
 
-pub returns-in-Refused : goal.returns-in-Refused
+pub returns-in-Err : goal.returns-in-Err
 unfolding step_of
-returns-in-Refused c = search (step_as, step_found)
+returns-in-Err c = search (step_as, step_found)
 
 pub returns-in-Absent : goal.returns-in-Absent
 unfolding step_of

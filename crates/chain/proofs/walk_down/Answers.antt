@@ -1,8 +1,8 @@
 use Rattle.chain.proofs.Down.{next_fits, next_ends, walk_answer, walk_below, walk_end}
 use Rattle.chain.proofs.walk_down.Goals as goal
 
-pub returns-in-Answer : goal.returns-in-Answer
-returns-in-Answer c = search walk_answer
+pub returns-in-Some : goal.returns-in-Some
+returns-in-Some c = search walk_answer
 
 pub overflow_sub-end : goal.overflow_sub-end
 overflow_sub-end c = search next_fits

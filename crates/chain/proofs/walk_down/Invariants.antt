@@ -8,6 +8,3 @@ abbrev pub invariant-loop-k : goal.invariant-loop-k
 invariant-loop-k l =
     Ends l.layers l.lengths l.k l.end
     × (walk_down l.layers l.lengths l.sector (length l.lengths) ≡ walk_down l.layers l.lengths l.sector l.k)
-
-abbrev pub decreases-loop-k : goal.decreases-loop-k
-decreases-loop-k l = l.k

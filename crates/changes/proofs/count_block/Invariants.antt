@@ -6,8 +6,4 @@ use Rattle.changes.proofs.count_block.Given as goal
 
 abbrev pub invariant-loop-k : goal.invariant-loop-k
 invariant-loop-k l =
-    (l.from ≤ l.k) × (l.k ≤ l.end) × (l.count ≤ l.k - l.from)
-    × (differing l.image l.t l.u l.from + l.count ≡ differing l.image l.t l.u l.k)
-
-abbrev pub decreases-loop-k : goal.decreases-loop-k
-decreases-loop-k l = l.end - l.k
+    (l.count ≤ l.k - l.from) × (differing l.image l.t l.u l.from + l.count ≡ differing l.image l.t l.u l.k)

@@ -1,4 +1,3 @@
-use Prim.Native.Nat.{◌-◌}
 use mathlib.Core.Path.{refl}
 use native.Mathlib.Omega.{arith}
 use Rattle.base.specs.SumsBelow.{sum_below}
@@ -18,7 +17,6 @@ directory_entries-n-requires c = let q = (sided_placed _ _ c.requires).sound in 
 pub loop-d-init : goal.loop-d-init
 unfolding sum_below
 loop-d-init c = (
-  search rules,
   omega (
     arith,
     c.directory_entries-n.ensures.1,
@@ -31,7 +29,7 @@ loop-d-init c = (
 
 pub loop-d-preserved : goal.loop-d-preserved
 unfolding sum_below
-loop-d-preserved c = (search rules, search rules, search rules, search counted_more)
+loop-d-preserved c = (search rules, search rules, search counted_more)
 
 pub returns : goal.returns
 unfolding sum_below

@@ -1,4 +1,3 @@
-use Prim.Native.Nat.{◌-◌}
 use Rattle.changes.proofs.CountLaws.{table_none, table_more, table_all}
 use borrow.Author.Rules.{rules}
 use Rattle.changes.proofs.count_table.Goals as goal

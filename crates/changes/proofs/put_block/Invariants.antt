@@ -1,5 +1,5 @@
 -- `put_block`: the changes of the first j entries are put.
-use Prim.Native.Nat.{◌+◌, ◌≤◌, ◌-◌}
+use Prim.Native.Nat.{◌+◌}
 use mathlib.Core.Path.{◌≡◌}
 use lib.ListN.{length}
 use Rattle.base.specs.Rows.{rows}
@@ -9,9 +9,5 @@ use Rattle.changes.proofs.put_block.Given as goal
 
 abbrev pub invariant-loop-j : goal.invariant-loop-j
 invariant-loop-j l =
-    (l.j ≤ l.m)
-    × (length l.list ≡ length l.initial.list)
+    (length l.list ≡ length l.initial.list)
     × WordsPut (rows l.j (λ i. change_in l.image l.first l.t l.u (l.from + i))) l.initial.list l.at l.list l.next
-
-abbrev pub decreases-loop-j : goal.decreases-loop-j
-decreases-loop-j l = l.m - l.j

@@ -1,4 +1,3 @@
-use Prim.Native.Nat.{◌-◌}
 use mathlib.Core.Path.{◌∙◌}
 use Rattle.format.proofs.Mendable.{sided_placed}
 use Rattle.framing.proofs.WordsLaws.{put_length}
@@ -14,15 +13,14 @@ pub directory_entries-n-requires : goal.directory_entries-n-requires
 directory_entries-n-requires c = let q = (sided_placed _ _ c.requires.0).sound in (q.sizes, q.some, q.few)
 
 pub loop-d-init : goal.loop-d-init
-loop-d-init c = (search rules, search rules, run_start _ _ _)
+loop-d-init c = (search rules, run_start _ _ _)
 
 pub loop-d-preserved : goal.loop-d-preserved
 loop-d-preserved c = (
-  search rules,
   put_length (row_room _ _ _ _ _ (listed_room _ _ c.requires.0 _ c.requires.1 _ c.directory_entries-n.ensures.0)
-      c.loop-d.invariant.2 c.loop-d-test.true) c.put_at-next.ensures
-      ∙ c.loop-d.invariant.1,
-  row_more _ _ _ _ _ (listed_room _ _ c.requires.0 _ c.requires.1 _ c.directory_entries-n.ensures.0) c.loop-d.invariant.2
+      c.loop-d.invariant.1 c.loop-d-test.true) c.put_at-next.ensures
+      ∙ c.loop-d.invariant.0,
+  row_more _ _ _ _ _ (listed_room _ _ c.requires.0 _ c.requires.1 _ c.directory_entries-n.ensures.0) c.loop-d.invariant.1
       c.loop-d-test.true c.put_at-next.ensures,
 )
 
@@ -34,5 +32,5 @@ put_at-next-requires-clause-sided c = search rules
 
 pub put_at-next-requires-clause-d_in_bounds : goal.put_at-next-requires-clause-d_in_bounds
 put_at-next-requires-clause-d_in_bounds c =
-    row_room _ _ _ _ _ (listed_room _ _ c.requires.0 _ c.requires.1 _ c.directory_entries-n.ensures.0) c.loop-d.invariant.2
+    row_room _ _ _ _ _ (listed_room _ _ c.requires.0 _ c.requires.1 _ c.directory_entries-n.ensures.0) c.loop-d.invariant.1
     c.loop-d-test.true

@@ -1,5 +1,4 @@
 -- `put_changes`: the changes of the tables below d are put.
-use Prim.Native.Nat.{◌≤◌, ◌-◌}
 use mathlib.Core.Path.{◌≡◌}
 use lib.ListN.{length}
 use Rattle.base.specs.Rows.{rows}
@@ -9,8 +8,5 @@ use Rattle.changes.proofs.put_changes.Given as goal
 
 abbrev pub invariant-loop-d : goal.invariant-loop-d
 invariant-loop-d l =
-    (l.d ≤ l.n) × (length l.list ≡ length l.initial.list) × WordsPut (rows l.d (changes_at l.image l.g)) l.initial.list 0
+    (length l.list ≡ length l.initial.list) × WordsPut (rows l.d (changes_at l.image l.g)) l.initial.list 0
     l.list l.next
-
-abbrev pub decreases-loop-d : goal.decreases-loop-d
-decreases-loop-d l = l.n - l.d

@@ -1,39 +1,20 @@
-use Rattle.format.specs.Check.{copy_differs}
-use Rattle.copies.proofs.CopiesLaws.{copy_as}
+use Rattle.copies.proofs.CopiesLaws.{both_absent, both_zero, both_named, absent_alone, zero_alone, named_alone}
 use Rattle.copies.proofs.copy_differs.Goals as goal
 
-pub returns-in-Absent-copy : goal.returns-in-Absent-copy
-unfolding copy_differs
-returns-in-Absent-copy c = search copy_as
+pub returns-in-Absent-Absent : goal.returns-in-Absent-Absent
+returns-in-Absent-Absent c = search (both_absent, both_zero)
 
-pub returns-in-Zero-copy : goal.returns-in-Zero-copy
-unfolding copy_differs
-returns-in-Zero-copy c = search copy_as
+pub returns-in-Absent-Absent-2 : goal.returns-in-Absent-Absent-2
+returns-in-Absent-Absent-2 c = search (both_absent, both_zero)
 
-pub returns-in-Sector-copy : goal.returns-in-Sector-copy
-unfolding copy_differs
-returns-in-Sector-copy c = search copy_as
+pub returns-in-Sector-Sector : goal.returns-in-Sector-Sector
+returns-in-Sector-Sector c = search both_named
 
-pub returns-in-Absent-copy-2 : goal.returns-in-Absent-copy-2
-unfolding copy_differs
-returns-in-Absent-copy-2 c = search copy_as
+pub returns-in_default : goal.returns-in_default
+returns-in_default c = search absent_alone
 
-pub returns-in-Zero-copy-2 : goal.returns-in-Zero-copy-2
-unfolding copy_differs
-returns-in-Zero-copy-2 c = search copy_as
+pub returns-in_default-2 : goal.returns-in_default-2
+returns-in_default-2 c = search zero_alone
 
-pub returns-in-Sector-copy-2 : goal.returns-in-Sector-copy-2
-unfolding copy_differs
-returns-in-Sector-copy-2 c = search copy_as
-
-pub returns-in-Absent-copy-3 : goal.returns-in-Absent-copy-3
-unfolding copy_differs
-returns-in-Absent-copy-3 c = search copy_as
-
-pub returns-in-Zero-copy-3 : goal.returns-in-Zero-copy-3
-unfolding copy_differs
-returns-in-Zero-copy-3 c = search copy_as
-
-pub returns-in-Sector-copy-3 : goal.returns-in-Sector-copy-3
-unfolding copy_differs
-returns-in-Sector-copy-3 c = search copy_as
+pub returns-in_default-3 : goal.returns-in_default-3
+returns-in_default-3 c = search named_alone

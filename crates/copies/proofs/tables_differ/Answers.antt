@@ -1,14 +1,16 @@
-use Prim.Native.Nat.{◌-◌}
 use borrow.Author.Rules.{rules}
-use Rattle.format.proofs.AnyBelow.{some_start}
-use Rattle.blocks.proofs.BlockLaws.{run_here, run_next}
+use Rattle.blocks.specs.Blocks.{differs_at}
+use Rattle.copies.proofs.CopiesLaws.{none_before, block_here}
 use Rattle.copies.proofs.tables_differ.Goals as goal
 
-pub loop-k-init : goal.loop-k-init
-loop-k-init c = (search rules, some_start _)
+pub overflow_sub-n : goal.overflow_sub-n
+overflow_sub-n c = let p = differs_at c.args.image.now c.args.t c.args.u in
+    (none_before p (c.past_blocks-k.ensures p (λ k r e. search rules))).0
 
-pub returns-then-block_differs : goal.returns-then-block_differs
-returns-then-block_differs c = search run_here
+pub rest_differs-requires-clause-from_le_n : goal.rest_differs-requires-clause-from_le_n
+rest_differs-requires-clause-from_le_n c = let p = differs_at c.args.image.now c.args.t c.args.u in
+    none_before p (c.past_blocks-k.ensures p (λ k r e. search rules))
 
-pub loop-k-preserved : goal.loop-k-preserved
-loop-k-preserved c = (search rules, search run_next)
+pub returns-then-n-k-ge16 : goal.returns-then-n-k-ge16
+returns-then-n-k-ge16 c = let p = differs_at c.args.image.now c.args.t c.args.u in
+    block_here p (c.past_blocks-k.ensures p (λ k r e. search rules)) c.if-n-k-ge16.true

@@ -1,16 +1,11 @@
--- `empty`: the invariant says that the first i words are counted and cleared.
-use Prim.Native.Nat.{◌*◌, ◌≤◌, ◌-◌}
+-- `empty`: the words before this one are counted and cleared.
+use Prim.Native.Nat.{◌*◌}
 use mathlib.Core.Path.{◌≡◌}
-use lib.ListN.{length}
 use Rattle.base.specs.Bytes.{over, zeros}
 use Rattle.base.specs.SumsBelow.{sum_below}
 use Rattle.marks.specs.Marks.{marked}
 use Rattle.counts.proofs.empty.Given as goal
 
-abbrev pub invariant-loop-i : goal.invariant-loop-i
-invariant-loop-i l =
-    (l.i ≤ l.count) × (length l.words ≡ length l.initial.words) × (l.total ≡ sum_below (marked l.initial.words) (64 * l.i))
-    × (l.words ≡ over l.initial.words 0 (zeros l.i))
-
-abbrev pub decreases-loop-i : goal.decreases-loop-i
-decreases-loop-i l = l.count - l.i
+abbrev pub invariant-loop-w : goal.invariant-loop-w
+invariant-loop-w l =
+    (l.total ≡ sum_below (marked l.initial.words) (64 * l.w-index)) × (l.words ≡ over l.initial.words 0 (zeros l.w-index))

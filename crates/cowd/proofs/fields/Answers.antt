@@ -7,11 +7,11 @@ unfolding cowd_fields
 returns c = (
   rw (
     c.dirty.ensures,
-    c.u32_at-5.ensures.0,
-    c.u32_at-4.ensures.0,
-    c.u32_at-3.ensures.0,
-    c.u32_at-2.ensures.0,
-    c.u32_at.ensures.0,
+    c.number_at-5.ensures.0,
+    c.number_at-4.ensures.0,
+    c.number_at-3.ensures.0,
+    c.number_at-2.ensures.0,
+    c.number_at.ensures.0,
   ),
   search rules,
 )

@@ -1,5 +1,6 @@
 use Rattle.format.proofs.Faults.{fault_found, fault_none}
 use Rattle.format.specs.Header.{judge_cowd}
+use Rattle.base.proofs.GivenBack.{given_back}
 use Rattle.base.proofs.Steps.{steps}
 use Rattle.cowd.proofs.judge.Goals as goal
 
@@ -11,10 +12,12 @@ pub returns-then-kind_gone : goal.returns-then-kind_gone
 unfolding judge_cowd
 returns-then-kind_gone c = search steps
 
-pub returns-in-Found : goal.returns-in-Found
+pub returns-in_err-fault : goal.returns-in_err-fault
 unfolding judge_cowd
-returns-in-Found c = rw (← c.fields-k.ensures.0) (search (fault_found, steps) depth 8)
+returns-in_err-fault c =
+    let refused = given_back c.from_residual.result c.in_err-fault.field-0.0 c.from_residual.ensures.1 in
+    rw (← c.fields-k.ensures.0) (search (fault_found, steps, c.in_err-fault.was) depth 8)
 
-pub returns-in-None : goal.returns-in-None
+pub returns : goal.returns
 unfolding judge_cowd
-returns-in-None c = rw (← c.fields-k.ensures.0) (search (fault_none, steps) depth 8)
+returns c = rw (← c.fields-k.ensures.0) (search (fault_none, steps, c.in_ok-fault.was) depth 8)

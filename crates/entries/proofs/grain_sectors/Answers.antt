@@ -7,6 +7,6 @@ pub returns-then-packed : goal.returns-then-packed
 unfolding grain_sectors
 returns-then-packed c = search packed_sectors
 
-pub returns : goal.returns
+pub returns-else-packed : goal.returns-else-packed
 unfolding grain_sectors
-returns c = search steps
+returns-else-packed c = search steps

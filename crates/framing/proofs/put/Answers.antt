@@ -1,22 +1,11 @@
-use native.Mathlib.Omega.{arith}
-use native.Mathlib.Numerals.{towards_suc}
-use lib.ListN.{length-set}
-use Rattle.base.proofs.Over.{over_sets}
+use borrow.Author.Rules.{rules}
 use Rattle.format.specs.Frame.{told_area, told}
 use Rattle.framing.proofs.put.Goals as goal
 
-pub bounds-list-at : goal.bounds-list-at
+pub put_words-requires : goal.put_words-requires
 unfolding told_area told
-bounds-list-at c = omega arith
-
-pub bounds-list-at-2 : goal.bounds-list-at-2
-unfolding told_area told
-bounds-list-at-2 c = simp length-set (omega arith)
-
-pub bounds-list-at-3 : goal.bounds-list-at-3
-unfolding told_area told
-bounds-list-at-3 c = simp length-set (omega arith)
+put_words-requires c = search rules
 
 pub returns : goal.returns
 unfolding told_area told
-returns c = record { words = simp towards_suc (over_sets _ _ _ (omega arith)); next = omega arith }
+returns c = search rules

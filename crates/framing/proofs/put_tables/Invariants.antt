@@ -1,5 +1,4 @@
 -- `put_tables`: the invariant says that what the first d entries name is put.
-use Prim.Native.Nat.{◌≤◌, ◌-◌}
 use mathlib.Core.Path.{◌≡◌}
 use lib.ListN.{length}
 use Rattle.base.specs.Rows.{rows}
@@ -11,10 +10,6 @@ use Rattle.framing.proofs.put_tables.Given as goal
 
 abbrev pub invariant-loop-d : goal.invariant-loop-d
 invariant-loop-d l =
-    (l.d ≤ l.n)
-    × (length l.list ≡ length l.initial.list)
+    (length l.list ≡ length l.initial.list)
     × WordsPut (told l.group (rows l.d (λ k. named (λ e. l.sectors) (meaning_at l.image l.one_is_zero l.directory k))))
     l.initial.list l.at l.list l.next
-
-abbrev pub decreases-loop-d : goal.decreases-loop-d
-decreases-loop-d l = l.n - l.d

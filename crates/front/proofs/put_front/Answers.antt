@@ -2,6 +2,6 @@ use Rattle.front.proofs.HeaderWritten.{front}
 use Rattle.front.proofs.put_front.Goals as goal
 
 pub returns : goal.returns
-returns c = front _ _ _ _ _ _ _ _ _ _ _ c.put_u32-3.ensures c.put_u64-4.ensures c.put_u64-3.ensures
-    c.put_u64-2.ensures c.put_u64.ensures
-    c.put_u32-2.ensures c.put_u32.ensures c.copy.ensures
+returns c = front _ _ _ _ _ _ _ _ _ _ _ c.put_number-7.ensures c.put_number-6.ensures c.put_number-5.ensures
+    c.put_number-4.ensures c.put_number-3.ensures
+    c.put_number-2.ensures c.put_number.ensures c.copy.ensures

@@ -1,6 +1,7 @@
 use Rattle.kdmv.proofs.KdmvKept.{kdmv_sized}
 use Rattle.format.proofs.Faults.{fault_found, fault_none}
 use Rattle.format.specs.Header.{judge_kdmv_start}
+use Rattle.base.proofs.GivenBack.{given_back}
 use Rattle.base.proofs.Steps.{steps}
 use Rattle.kdmv.proofs.judge_start.Goals as goal
 
@@ -9,14 +10,14 @@ unfolding judge_kdmv_start
 returns-then-image-lt512 c = search steps
 
 pub header-requires : goal.header-requires
-unfolding judge_kdmv_start
-header-requires c = search kdmv_sized
+header-requires c = search (kdmv_sized, c.in_ok-fault.was)
 
-pub returns-in-Found : goal.returns-in-Found
+pub returns-in_err-fault : goal.returns-in_err-fault
 unfolding judge_kdmv_start
-returns-in-Found c = rw (← c.fields-k.ensures) (search (fault_found, steps) depth 8)
+returns-in_err-fault c =
+    let refused = given_back c.from_residual.result c.in_err-fault.field-0.0 c.from_residual.ensures.1 in
+    rw (← c.fields-k.ensures) (search (fault_found, steps, c.in_err-fault.was) depth 8)
 
-pub returns-in-None : goal.returns-in-None
+pub returns : goal.returns
 unfolding judge_kdmv_start
-returns-in-None c = rw (c.header.ensures, ← c.fields-k.ensures)
-    (search (fault_none, steps) depth 8)
+returns c = rw (c.header.ensures, ← c.fields-k.ensures) (search (fault_none, steps, c.in_ok-fault.was) depth 8)

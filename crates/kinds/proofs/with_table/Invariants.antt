@@ -1,12 +1,7 @@
-use Prim.Native.Nat.{◌≤◌, ◌-◌}
 use mathlib.Core.Path.{◌≡◌}
 use Rattle.format.specs.Entries.{meaning_at}
 use Rattle.kinds.specs.Counting.{with_entries}
 use Rattle.kinds.proofs.with_table.Given as goal
 
 abbrev pub invariant-loop-k : goal.invariant-loop-k
-invariant-loop-k l =
-    (l.k ≤ l.n) × (l.counted ≡ with_entries l.initial.counted (meaning_at l.image l.one_is_zero l.t) l.k)
-
-abbrev pub decreases-loop-k : goal.decreases-loop-k
-decreases-loop-k l = l.n - l.k
+invariant-loop-k l = l.counted ≡ with_entries l.initial.counted (meaning_at l.image l.one_is_zero l.t) l.k

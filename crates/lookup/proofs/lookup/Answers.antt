@@ -1,16 +1,18 @@
 use Rattle.header.proofs.HeaderAnswered.{judged_sound}
 use Rattle.lookup.proofs.LookupLaws.{judged_as}
 use Rattle.format.specs.Source.{lookup_from}
+use Rattle.base.proofs.GivenBack.{given_back}
 use Rattle.lookup.proofs.lookup.Goals as goal
 
 pub lookup_in-requires : goal.lookup_in-requires
-unfolding lookup_from
-lookup_in-requires c = search judged_sound
+lookup_in-requires c = search (judged_sound, c.in_ok-h.was)
 
-pub returns-in-Refused : goal.returns-in-Refused
+pub returns-in_err-h : goal.returns-in_err-h
 unfolding lookup_from
-returns-in-Refused c = search judged_as
+returns-in_err-h c =
+    let refused = given_back c.from_residual.result c.in_err-h.field-0.0 c.from_residual.ensures.1 in
+    search (judged_as, c.in_err-h.was)
 
-pub returns-in-Known : goal.returns-in-Known
+pub returns : goal.returns
 unfolding lookup_from
-returns-in-Known c = search judged_as
+returns c = search (judged_as, c.in_ok-h.was)

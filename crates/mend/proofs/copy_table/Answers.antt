@@ -1,4 +1,4 @@
-use Prim.Native.Nat.{◌-◌, ◌*◌}
+use Prim.Native.Nat.{◌*◌}
 use mathlib.Core.Path.{refl}
 use native.Mathlib.Omega.{arith}
 use lib.ListN.{take, drop}
@@ -17,7 +17,7 @@ pub overflow_mul-long : goal.overflow_mul-long
 overflow_mul-long c = omega (arith, c.requires.good)
 
 pub loop-i-init : goal.loop-i-init
-loop-i-init c = (search rules, refl, over_none _ _)
+loop-i-init c = (refl, over_none _ _)
 
 pub overflow_add-byte : goal.overflow_add-byte
 overflow_add-byte c = omega (arith, c.requires.good)
@@ -34,10 +34,9 @@ bounds-image-to c = omega (arith, c.requires.other)
 pub loop-i-preserved : goal.loop-i-preserved
 loop-i-preserved c = (
   search rules,
-  search rules,
-  byte_copied _ _ _ _ c.requires _ _ c.loop-i.invariant.2 c.loop-i-test.true,
+  byte_copied _ _ _ _ c.requires _ _ c.loop-i.invariant.1 c.loop-i-test.true,
 )
 
 pub returns : goal.returns
 returns c = over_all _ _ _ c.loop-i.i (λ k. take k (drop (512 * c.args.t) c.args.image.now)) (4 * c.args.n)
-    c.loop-i.invariant.2 (omega arith) (omega arith)
+    c.loop-i.invariant.1 (omega arith) (omega arith)

@@ -1,5 +1,5 @@
 -- `copy_table`: the first i bytes are copied.
-use Prim.Native.Nat.{◌≤◌, ◌-◌, ◌*◌}
+use Prim.Native.Nat.{◌*◌}
 use mathlib.Core.Path.{◌≡◌}
 use lib.ListN.{length, take, drop}
 use Rattle.base.specs.Bytes.{over}
@@ -7,8 +7,5 @@ use Rattle.mend.proofs.copy_table.Given as goal
 
 abbrev pub invariant-loop-i : goal.invariant-loop-i
 invariant-loop-i l =
-    (l.i ≤ 4 * l.n) × (length l.image ≡ length l.initial.image)
+    (length l.image ≡ length l.initial.image)
     × (l.image ≡ over l.initial.image (512 * l.u) (take l.i (drop (512 * l.t) l.initial.image)))
-
-abbrev pub decreases-loop-i : goal.decreases-loop-i
-decreases-loop-i l = 4 * l.n - l.i

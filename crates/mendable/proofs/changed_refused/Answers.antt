@@ -8,8 +8,8 @@ lowest_past-lowest-requires c = search sided_placed
 pub markers_refused-requires : goal.markers_refused-requires
 markers_refused-requires c = (search filed_of, search in_file_of)
 
-pub returns-in-Grain : goal.returns-in-Grain
-returns-in-Grain c = search past_found
+pub returns-in-Some : goal.returns-in-Some
+returns-in-Some c = search past_found
 
 pub returns-in-None : goal.returns-in-None
 returns-in-None c = search past_none

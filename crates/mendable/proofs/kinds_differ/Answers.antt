@@ -1,39 +1,15 @@
-use Rattle.format.specs.Mend.{kinds_differ}
-use Rattle.mendable.proofs.MendableLaws.{kinds_as}
+use Rattle.mendable.proofs.MendableLaws.{both_absent, both_zero, both_named, absent_alone, zero_alone, named_alone}
 use Rattle.mendable.proofs.kinds_differ.Goals as goal
+use Rattle.mendable.proofs.kinds_differ.Goals.{in_default, in_default-2, in_default-3}
+use Rattle.mendable.proofs.kinds_differ.Goals.{in-Absent-Absent, in-Absent-Absent-2, in-Absent-Absent-3}
 
-pub returns-in-Absent-other : goal.returns-in-Absent-other
-unfolding kinds_differ
-returns-in-Absent-other c = search kinds_as
-
-pub returns-in-Zero-other : goal.returns-in-Zero-other
-unfolding kinds_differ
-returns-in-Zero-other c = search kinds_as
-
-pub returns-in-Sector-other : goal.returns-in-Sector-other
-unfolding kinds_differ
-returns-in-Sector-other c = search kinds_as
-
-pub returns-in-Absent-other-2 : goal.returns-in-Absent-other-2
-unfolding kinds_differ
-returns-in-Absent-other-2 c = search kinds_as
-
-pub returns-in-Zero-other-2 : goal.returns-in-Zero-other-2
-unfolding kinds_differ
-returns-in-Zero-other-2 c = search kinds_as
-
-pub returns-in-Sector-other-2 : goal.returns-in-Sector-other-2
-unfolding kinds_differ
-returns-in-Sector-other-2 c = search kinds_as
-
-pub returns-in-Absent-other-3 : goal.returns-in-Absent-other-3
-unfolding kinds_differ
-returns-in-Absent-other-3 c = search kinds_as
-
-pub returns-in-Zero-other-3 : goal.returns-in-Zero-other-3
-unfolding kinds_differ
-returns-in-Zero-other-3 c = search kinds_as
-
-pub returns-in-Sector-other-3 : goal.returns-in-Sector-other-3
-unfolding kinds_differ
-returns-in-Sector-other-3 c = search kinds_as
+pub returns : goal.returns
+returns c =
+    elim c.match-matches.branch [
+      | in_default w ↦ search (absent_alone, zero_alone, named_alone)
+      | in_default-2 w ↦ search (absent_alone, zero_alone, named_alone)
+      | in_default-3 w ↦ search (absent_alone, zero_alone, named_alone)
+      | in-Absent-Absent w ↦ search (both_absent, both_zero, both_named)
+      | in-Absent-Absent-2 w ↦ search (both_absent, both_zero, both_named)
+      | in-Absent-Absent-3 w ↦ search (both_absent, both_zero, both_named)
+    ]

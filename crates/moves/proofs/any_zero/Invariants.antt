@@ -1,5 +1,4 @@
 -- `any_zero`: no grain below g is zero.
-use Prim.Native.Nat.{◌≤◌, ◌-◌}
 use mathlib.Core.Path.{◌≡◌}
 use mathlib.Core.Bool.{false}
 use Rattle.format.specs.Entries.{any_below}
@@ -7,7 +6,4 @@ use Rattle.format.specs.Moves.{zero_grain}
 use Rattle.moves.proofs.any_zero.Given as goal
 
 abbrev pub invariant-loop-g : goal.invariant-loop-g
-invariant-loop-g l = (l.g ≤ l.all) × (any_below (zero_grain l.image l.h) l.g ≡ false)
-
-abbrev pub decreases-loop-g : goal.decreases-loop-g
-decreases-loop-g l = l.all - l.g
+invariant-loop-g l = any_below (zero_grain l.image l.h) l.g ≡ false

@@ -1,6 +1,6 @@
 -- `mark_around`: two calls, left where one met.
 use Rattle.overlap.specs.InFile.{around}
-use Rattle.window.proofs.RunLaws.{run_stop}
+use Rattle.window.specs.TakenRuns.{run_stop}
 use Rattle.overlap.proofs.Grouped.{stretch_run}
 use Rattle.overlap.proofs.mark_around.Goals as goal
 

@@ -1,12 +1,7 @@
-use Prim.Native.Nat.{◌-◌}
 use mathlib.Core.Path.{◌∙◌}
 use native.Mathlib.Omega.{arith}
 use Rattle.profile.proofs.EntryTurns.{directory_room, alike_as, table_on, table_not}
-use borrow.Author.Rules.{rules}
 use Rattle.profile.proofs.compare_directory.Goals as goal
-
-pub loop-d-init : goal.loop-d-init
-loop-d-init c = (search rules, c.requires)
 
 pub first_of_number-place-requires : goal.first_of_number-place-requires
 first_of_number-place-requires c = let room = directory_room c.requires (omega arith) in
@@ -14,15 +9,12 @@ first_of_number-place-requires c = let room = directory_room c.requires (omega a
 
 pub returns-then-place-at : goal.returns-then-place-at
 returns-then-place-at c = c.not_normal.ensures
-    ∙ table_not _ _ _ _ c.loop-d.invariant.1 c.tables_of-n.ensures.0 c.tables_at-first.ensures.0
+    ∙ table_not _ _ _ _ c.loop-d.invariant c.tables_of-n.ensures.0 c.tables_at-first.ensures.0
     (omega arith) c.first_of_number-place.ensures (omega arith)
 
 pub loop-d-preserved : goal.loop-d-preserved
-loop-d-preserved c = (
-  search rules,
-  table_on _ _ _ _ c.loop-d.invariant.1 c.tables_of-n.ensures.0 c.tables_at-first.ensures.0
-      (omega arith) c.first_of_number-place.ensures (omega arith),
-)
+loop-d-preserved c = table_on _ _ _ _ c.loop-d.invariant c.tables_of-n.ensures.0 c.tables_at-first.ensures.0
+    (omega arith) c.first_of_number-place.ensures (omega arith)
 
 pub compare_unused-requires : goal.compare_unused-requires
-compare_unused-requires c = alike_as c.loop-d.invariant.1 _ (omega (arith, c.tables_of-n.ensures.0))
+compare_unused-requires c = alike_as c.loop-d.invariant _ (omega (arith, c.tables_of-n.ensures.0))

@@ -1,4 +1,3 @@
-use Prim.Native.Nat.{◌-◌}
 use mathlib.Core.Path.{refl, ◌∙◌}
 use native.Mathlib.Omega.{arith}
 use Rattle.profile.proofs.EntryTurns.{alike_as}
@@ -14,10 +13,12 @@ loop-g-init c = (
   first_sector c.args.image.now c.args.h _ c.sector_v-next.ensures.0,
 )
 
-pub u32_at-entry-requires : goal.u32_at-entry-requires
-u32_at-entry-requires c = entry_room _ _ _ _ 0 0 c.loop-g.invariant.1 (omega (arith, c.tables_at-tables.ensures.0))
-    c.grains_of-all.ensures.0
-    (omega arith) c.loop-g.invariant.2
+pub number_at-entry-requires : goal.number_at-entry-requires
+number_at-entry-requires c = (
+  entry_room _ _ _ _ 0 0 c.loop-g.invariant.1 (omega (arith, c.tables_at-tables.ensures.0)) c.grains_of-all.ensures.0
+      (omega arith) c.loop-g.invariant.2,
+  omega arith,
+)
 
 pub first_of_number-place-requires : goal.first_of_number-place-requires
 first_of_number-place-requires c = entry_room _ _ _ _ 0 0 c.loop-g.invariant.1 (omega (arith, c.tables_at-tables.ensures.0))
@@ -27,7 +28,7 @@ first_of_number-place-requires c = entry_room _ _ _ _ 0 0 c.loop-g.invariant.1 (
 pub returns-then-place-at : goal.returns-then-place-at
 returns-then-place-at c = c.not_normal.ensures
     ∙ entry_not _ _ _ _ _ _ c.loop-g.invariant.1 (omega (arith, c.tables_at-tables.ensures.0)) c.grains_of-all.ensures.0
-    (omega arith) c.loop-g.invariant.2 c.u32_at-entry.ensures.0
+    (omega arith) c.loop-g.invariant.2 c.number_at-entry.ensures.0
     (meant_as _ _ _ _ _ c.entry_meant.ensures c.first_of_number-place.ensures) (omega arith)
 
 pub next_meant-next-requires : goal.next_meant-next-requires
@@ -48,11 +49,11 @@ pub loop-g-preserved : goal.loop-g-preserved
 loop-g-preserved c = let first = c.tables_at-tables.ensures.0 in
     let on = passed_on _ _ _ _ _ (omega (arith, first)) c.grains_of-all.ensures.0 _ _ _ refl c.past_absent-g.ensures (
       entry_on _ _ _ _ _ _ c.loop-g.invariant.1 (omega (arith, first)) c.grains_of-all.ensures.0 (omega arith)
-          c.loop-g.invariant.2 c.u32_at-entry.ensures.0
+          c.loop-g.invariant.2 c.number_at-entry.ensures.0
           (meant_as _ _ _ _ _ c.entry_meant.ensures c.first_of_number-place.ensures) (omega arith),
       c.next_meant-next.ensures
           ∙ next_sector _ _ _ _ _ 0 c.loop-g.invariant.1 (omega (arith, first)) c.grains_of-all.ensures.0 (omega arith)
-          c.loop-g.invariant.2 c.u32_at-entry.ensures.0,
+          c.loop-g.invariant.2 c.number_at-entry.ensures.0,
     ) in
     (c.past_absent-g.ensures.high, on.0, on.1)
 

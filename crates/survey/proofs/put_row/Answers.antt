@@ -31,4 +31,4 @@ bounds-list-at-6 c = simp length-set (omega arith)
 
 pub returns : goal.returns
 unfolding row_words
-returns c = record { words = simp towards_suc (over_sets _ _ _ (omega arith)); next = omega arith }
+returns c = simp towards_suc (over_sets _ _ _ (omega arith))

@@ -6,8 +6,8 @@ use Rattle.survey.proofs.row_of.Goals as goal
 pub accepted_row-requires : goal.accepted_row-requires
 accepted_row-requires c = search checked_of
 
-pub returns-in-Refused : goal.returns-in-Refused
-returns-in-Refused c = (search row_refused, search small_refused)
+pub returns-in-Err : goal.returns-in-Err
+returns-in-Err c = (search row_refused, search small_refused)
 
-pub returns-in-Known : goal.returns-in-Known
-returns-in-Known c = (search row_accepted, search rules)
+pub returns-in-Ok : goal.returns-in-Ok
+returns-in-Ok c = (search row_accepted, search rules)

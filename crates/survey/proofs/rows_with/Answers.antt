@@ -1,13 +1,13 @@
-use Prim.Native.Nat.{◌-◌}
-use Rattle.survey.proofs.TallyLaws.{count_none, count_more, count_done}
+use native.Mathlib.Omega.{arith}
+use Rattle.survey.proofs.TallyLaws.{one_most, count_none, count_more}
 use borrow.Author.Rules.{rules}
 use Rattle.survey.proofs.rows_with.Goals as goal
 
 pub loop-k-init : goal.loop-k-init
-loop-k-init c = (search rules, search rules, count_none _ _)
+loop-k-init c = (search rules, count_none _ _)
 
 pub loop-k-preserved : goal.loop-k-preserved
-loop-k-preserved c = (search rules, search rules, search count_more)
-
-pub returns : goal.returns
-returns c = search count_done
+loop-k-preserved c = (
+  omega (arith, one_most _ _ c.from-count.ensures),
+  count_more _ _ _ _ c.loop-k.invariant.1 _ c.from-count.ensures,
+)

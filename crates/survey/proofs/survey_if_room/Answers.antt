@@ -1,5 +1,4 @@
 use Rattle.survey.proofs.SurveySteps.{room_short, room_rows, room_tally, room_told}
-use borrow.Author.Rules.{rules}
 use Rattle.survey.proofs.survey_if_room.Goals as goal
 
 pub returns-then-rows-lengths : goal.returns-then-rows-lengths
@@ -7,9 +6,6 @@ returns-then-rows-lengths c = search room_short
 
 pub returns : goal.returns
 returns c = search room_told
-
-pub survey_all-requires-clause-laid : goal.survey_all-requires-clause-laid
-survey_all-requires-clause-laid c = search rules
 
 pub survey_all-requires-clause-lengths_in_bounds : goal.survey_all-requires-clause-lengths_in_bounds
 survey_all-requires-clause-lengths_in_bounds c = (search room_rows, search room_tally)

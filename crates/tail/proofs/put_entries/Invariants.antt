@@ -1,6 +1,5 @@
-use Prim.Native.Nat.{◌+◌, ◌-◌, ◌≤◌}
+use Prim.Native.Nat.{◌+◌}
 use mathlib.Core.Path.{◌≡◌}
-use lib.ListN.{length}
 use Rattle.base.specs.Bytes.{over}
 use Rattle.format.specs.Stream.{kept_grains}
 use Rattle.tail.specs.TailPut.{Left, entries_from}
@@ -8,9 +7,4 @@ use Rattle.tail.proofs.put_entries.Given as goal
 
 abbrev pub invariant-loop-k : goal.invariant-loop-k
 invariant-loop-k l =
-    (l.k ≤ 512) × (length l.out ≡ length l.initial.out)
-    × (l.out ≡ over l.initial.out l.at (entries_from (kept_grains l.image l.h) l.g l.k))
-    × Left l.image l.h (l.g + l.k) l.c
-
-abbrev pub decreases-loop-k : goal.decreases-loop-k
-decreases-loop-k l = 512 - l.k
+    (l.out ≡ over l.initial.out l.at (entries_from (kept_grains l.image l.h) l.g l.k)) × Left l.image l.h (l.g + l.k) l.next

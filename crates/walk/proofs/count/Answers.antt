@@ -1,17 +1,34 @@
 use native.Mathlib.Omega.{arith}
-use Rattle.walk.proofs.CountedBlocks.{counting_starts, counting_less, counting_on, counting_ends}
+use Rattle.walk.proofs.CountedBlocks.{one_most, counting_starts, counted, counting_less, counting_on, counting_ends}
 use Rattle.walk.proofs.count.Goals as goal
 
-pub loop-c-init : goal.loop-c-init
-loop-c-init c = search counting_starts
+pub loop-next-init : goal.loop-next-init
+loop-next-init c = search counting_starts
 
-pub loop-c-smaller : goal.loop-c-smaller
-loop-c-smaller c = counting_less _ _ c.requires.0 _ _ _ _ c.loop-c.invariant _ (omega arith)
-    c.next_grain-after.ensures
+pub overflow_add-sectors : goal.overflow_add-sectors
+overflow_add-sectors c =
+    let g = counted _ _ c.requires.0 _ _ _ _ c.loop-next.invariant _ c.in-Some.is in omega (arith, g.here)
 
-pub loop-c-preserved : goal.loop-c-preserved
-loop-c-preserved c = counting_on _ _ c.requires.0 _ _ _ _ c.loop-c.invariant _ _ (omega arith)
-    c.next_grain-after.ensures c.ends_table-tables.ensures.0 c.ends_table-tables.ensures.1
+pub overflow_add-c : goal.overflow_add-c
+overflow_add-c c = let g = counted _ _ c.requires.0 _ _ _ _ c.loop-next.invariant _ c.in-Some.is in omega (arith, g.high)
+
+pub overflow_add-grains : goal.overflow_add-grains
+overflow_add-grains c =
+    let g = counted _ _ c.requires.0 _ _ _ _ c.loop-next.invariant _ c.in-Some.is in omega (arith, g.low, g.high)
+
+pub overflow_add-tables : goal.overflow_add-tables
+overflow_add-tables c =
+    let g = counted _ _ c.requires.0 _ _ _ _ c.loop-next.invariant _ c.in-Some.is in
+    omega (arith, c.loop-next.invariant.fewer, g.low, g.high, one_most _ _ c.from-tables.ensures)
+
+pub loop-next-smaller : goal.loop-next-smaller
+loop-next-smaller c =
+    counting_less _ _ c.requires.0 _ _ _ _ c.loop-next.invariant _ c.in-Some.is _ c.next_grain-next-in-Some.ensures
+
+pub loop-next-preserved : goal.loop-next-preserved
+loop-next-preserved c =
+    counting_on _ _ c.requires.0 _ _ _ _ c.loop-next.invariant _ c.in-Some.is _ c.next_grain-next-in-Some.ensures _ _
+    c.next_in.ensures c.from-tables.ensures
 
 pub returns : goal.returns
 returns c = search counting_ends

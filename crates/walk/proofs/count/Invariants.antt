@@ -3,8 +3,8 @@ use Rattle.walk.specs.Walked.{rest_of}
 use Rattle.walk.proofs.CountedBlocks.{Counting}
 use Rattle.walk.proofs.count.Given as goal
 
-abbrev pub invariant-loop-c : goal.invariant-loop-c
-invariant-loop-c l = Counting l.image l.h l.sectors l.grains l.tables l.c
+abbrev pub invariant-loop-next : goal.invariant-loop-next
+invariant-loop-next l = Counting l.image l.h l.sectors l.grains l.tables l.next
 
-abbrev pub decreases-loop-c : goal.decreases-loop-c
-decreases-loop-c l = length (rest_of l.image l.h l.c)
+abbrev pub decreases-loop-next : goal.decreases-loop-next
+decreases-loop-next l = length (rest_of l.image l.h l.next)

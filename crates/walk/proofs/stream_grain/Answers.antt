@@ -11,7 +11,7 @@ unfolding if_whole
 returns-then-out_of_order c = rw (
   ← c.file_sectors.ensures,
   ← c.grain_sectors-whole.ensures,
-  ← c.u64_at-first.ensures,
+  ← c.number_at-first.ensures.0,
 ) (search steps)
 
 pub returns : goal.returns
@@ -19,5 +19,5 @@ unfolding if_whole
 returns c = rw (
   ← c.file_sectors.ensures,
   ← c.grain_sectors-whole.ensures,
-  ← c.u64_at-first.ensures,
+  ← c.number_at-first.ensures.0,
 ) (search steps)

@@ -7,10 +7,10 @@ pub way_in-requires : goal.way_in-requires
 unfolding way_from
 way_in-requires c = search judged_sound
 
-pub returns-in-Refused : goal.returns-in-Refused
+pub returns-in-Err : goal.returns-in-Err
 unfolding way_from
-returns-in-Refused c = search judged_as
+returns-in-Err c = search judged_as
 
-pub returns-in-Known : goal.returns-in-Known
+pub returns-in-Ok : goal.returns-in-Ok
 unfolding way_from
-returns-in-Known c = search judged_as
+returns-in-Ok c = search judged_as

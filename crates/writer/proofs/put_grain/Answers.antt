@@ -3,11 +3,11 @@ use Rattle.writer.proofs.put_grain.Goals as goal
 
 pub returns-in-Absent : goal.returns-in-Absent
 returns-in-Absent c = absent_put _ _ _ _ _ _ _ _ _ _ c.in-Absent.is
-    c.put_u32.ensures
+    c.put_number.ensures
 
 pub returns-in-Zero : goal.returns-in-Zero
 returns-in-Zero c = zero_put _ _ _ _ _ _ _ _ _ _ c.in-Zero.is
-    c.put_u32-in-Zero.ensures
+    c.put_number-in-Zero.ensures
 
 pub returns-in-Lower : goal.returns-in-Lower
 returns-in-Lower c = lower_put _ _ _ _ _ _ _ _ _ c.in-Lower.is

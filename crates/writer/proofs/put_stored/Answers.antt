@@ -11,5 +11,5 @@ write_grain-requires c = search rules
 pub returns : goal.returns
 unfolding one_if_stored
 returns c = let a = c.args in
-    stored_put _ _ _ _ _ _ _ refl (grain_lent _ _ _ a.e a.image.now _ _ _ _ c.put_u32.ensures
+    stored_put _ _ _ _ _ _ _ refl (grain_lent _ _ _ a.e a.image.now _ _ _ _ c.put_number.ensures
     c.write_grain.ensures)

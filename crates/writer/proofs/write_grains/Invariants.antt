@@ -1,11 +1,6 @@
-use Prim.Native.Nat.{◌≤◌, ◌-◌}
 use Rattle.layout.proofs.GrainsDone.{Done}
 use Rattle.layers.specs.TwoLayers.{layered}
 use Rattle.writer.proofs.write_grains.Given as goal
 
 abbrev pub invariant-loop-g : goal.invariant-loop-g
-invariant-loop-g l =
-    (l.g ≤ l.all) × Done l.table l.initial.next l.h.grain_size (layered l.lower l.h l.upper l.k) l.initial.out l.g l.out l.next
-
-abbrev pub decreases-loop-g : goal.decreases-loop-g
-decreases-loop-g l = l.all - l.g
+invariant-loop-g l = Done l.table l.initial.next l.h.grain_size (layered l.lower l.h l.upper l.k) l.initial.out l.g l.out l.next

@@ -1,4 +1,0 @@
-use Rattle.lines.proofs.keys.version.Goals as goal
-
-pub returns : goal.returns
-returns c = rw (c.version_is.ensures, c.decimal.ensures)
