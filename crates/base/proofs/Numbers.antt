@@ -9,6 +9,7 @@ use native.Mathlib.Nat.{div-one, div-div-eq-div-mul, mod-one, mod-eq_of_lt, one-
 use native.Mathlib.Numerals.{one-add, add-one}
 use lib.Arith.{mod-mul}
 use lib.Pow.{pow_mono}
+use Rattle.std.proofs.Math.Nat.{mul-le-mul_right}
 use Rattle.std.proofs.lemmas.Nat.{pow-add}
 use lib.Dec.{lit<}
 use lib.ListN.{length, get_or, take, drop}
@@ -94,6 +95,16 @@ module _ (s : List ℕ) (bytes : (i : ℕ) → get_or s i 0 < 256) where
 
     pub byte_fits : n + (b * 2 ^ (8 * m)) % 2 ^ 64 < 2 ^ 64
     byte_fits = rw byte_added (le_fits at (m + 1) (omega arith))
+
+  -- and so it is whichever byte b is
+  pub byte_above : (at m n b : ℕ) → n ≡ le_at s at m → b < 256 → m < 8 → n + (b * 2 ^ (8 * m)) % 2 ^ 64 < 2 ^ 64
+  byte_above at m n b e q h =
+      let wide : 8 * suc m ≤ 64 = omega arith in
+      let most : 256 * 256 ^ m ≤ 2 ^ 64 = rw (bytes_wide (suc m), pow-succ') at (pow_mono wide) in
+      let part : b * 256 ^ m ≤ 255 * 256 ^ m = mul-le-mul_right (256 ^ m) (omega arith) in
+      let low : n < 256 ^ m = rw e (le_below at m) in
+      let room : b * 256 ^ m < 2 ^ 64 = omega (arith, most, part, low) in
+      rw (bytes_wide m, mod-eq_of_lt room) (omega (arith, most, part, low))
 
   pub bytes_back : (at n : ℕ) → at + n ≤ length s → le_bytes n (le_at s at n) ≡ take n (drop at s)
   unfolding le_at le_bytes

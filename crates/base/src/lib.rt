@@ -62,7 +62,10 @@ pub fn copy(out: &mut [u8], at: usize, src: &[u8], n: usize)
     requires { (n ≤ length src.now) × (at + n ≤ length out.old) }
     ensures { out.new ≡ over out.old at (take n src.now) }
 {
-    out[at..at + n].copy_from_slice(&src[..n]);
+    // `copy_from_slice` is a call of memmove, from outside, which takes longer over grains that no cache holds.
+    for i in 0..n {
+        out[at + i] = src[i];
+    }
 }
 
 // a / b, rounded up.

@@ -49,6 +49,15 @@ module _ (p : ℕ → Bool) where
   pairs_run k (suc m) =
       let q : 2 * suc m ≡ 2 * (m + 1) = omega arith in rw q (one_pair k m (pairs_run k m) refl)
 
+  -- eight runs of two are one of sixteen
+  pub run_eight : {a b c d e f g h : Bool} (k : ℕ) → a ≡ any_from p k 2 → b ≡ any_from p (k + 2) 2 → c ≡ any_from p (k + 4) 2
+      → d ≡ any_from p (k + 6) 2 → e ≡ any_from p (k + 8) 2 → f ≡ any_from p (k + 10) 2 → g ≡ any_from p (k + 12) 2
+      → h ≡ any_from p (k + 14) 2 → (a || b || c || d || e || f || g || h) ≡ any_from p k 16
+  run_eight k qa qb qc qd qe qf qg qh =
+      let four = run_join k 4 2 (run_join k 2 2 qa qb) qc in
+      let six = run_join k 8 2 (run_join k 6 2 four qd) qe in
+      run_join k 14 2 (run_join k 12 2 (run_join k 10 2 six qf) qg) qh
+
   -- a run of two
   pub any_two : (k : ℕ) → any_from p k 2 ≡ (p k || p (k + 1))
   unfolding any_from any_below
@@ -129,3 +138,19 @@ zeros_passed s t k n r p =
       high = p.high;
       zeros = λ j a b. eqb-true (entry_at s t j) 0 (not_no _ (p.none j a b));
     }
+
+-- a block of zeros more
+module _ {r : Bool} (s : List ℕ) (t k : ℕ) (e : r ≡ any_from (named_at s t) k 16) (f : r ≡ false) where
+  block_zero : (i : ℕ) → i < 16 → entry_at s t (k + i) ≡ 0
+  unfolding any_from
+  block_zero i l = eqb-true (entry_at s t (k + i)) 0 (not_no _ (some_no (λ j. named_at s t (k + j)) 16 (sym e ∙ f) i l))
+
+  pub passed_more : (from n : ℕ) → Passed s t from n k → 16 ≤ n - k → Passed s t from n (k + 16)
+  passed_more from n p h =
+      record {
+        low = omega (arith, p.low);
+        high = omega (arith, p.high);
+        zeros = λ j a b. ⊎_elim (λ l. p.zeros j a l)
+            (λ g. let q : j ≡ k + (j - k) = omega arith in let l : j - k < 16 = omega arith in rw q (block_zero (j - k) l))
+            (lt_or_ge j k);
+      }

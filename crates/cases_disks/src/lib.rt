@@ -16,5 +16,5 @@ pub fn look(rt: &impl Print, bytes: &[u8], lengths: &[u8], sector: u64) -> io::R
     };
     let (text, files) = bytes.split_at((*text as usize).min(bytes.len()));
     let answer = split::split(text, files, extents, sector);
-    programs::put_located(rt, "split", split::numbers::split_of(answer))
+    programs::put_located(rt, b"split ", split::numbers::split_of(answer))
 }

@@ -31,7 +31,7 @@ pub fn image(rt: &impl Print, image: &[u8]) -> io::Result<()> {
 
 // The lookup, then how many bytes the grain reader hands back, and their digest.
 pub fn look(rt: &impl Print, image: &[u8], sector: u64) -> io::Result<()> {
-    programs::put_located(rt, "lookup", Located::from(lookup::lookup(image, sector)))?;
+    programs::put_located(rt, b"lookup ", Located::from(lookup::lookup(image, sector)))?;
     let part = reader::read(image, sector);
     println!(rt; "read {} {} ", part.len(), programs::digest(part))
 }
@@ -64,7 +64,7 @@ pub fn look_down(rt: &impl Print, layers: &[u8], lengths: &[u8], sector: u64) ->
     let layer_lengths = &numbers[..lengths.len() / 8];
     programs::put_located(
         rt,
-        "chain",
+        b"chain ",
         Located::from(chain::chain(layers, layer_lengths, sector)),
     )
 }

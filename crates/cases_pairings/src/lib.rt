@@ -1,11 +1,15 @@
 // The collapse in every order of pairing neighbours, a line each; a layer alone is put into normal form.
 #![tactic(auto)]
 
+ghost use Rattle.std.specs.Prelude.{◌≤◌, length};
+
 use format::Written;
 use std::io;
 
 // A pairing on the way: its result, empty on a refusal.
-fn pair<'a>(lower: &[u8], upper: &[u8], out: &'a mut [u8]) -> &'a [u8] {
+fn pair<'a>(lower: &[u8], upper: &[u8], out: &'a mut [u8]) -> &'a [u8]
+    ensures { length result.now ≤ length out.old }
+{
     let a = Written::from(collapse::collapse(lower, upper, &mut *out));
     let n = a.length as usize;
     if out.len() < n {

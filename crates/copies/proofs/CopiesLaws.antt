@@ -30,7 +30,7 @@ room_at s n t a f e = f t e
 
 -- ---- tables
 -- the last entry alone is left
-last_entry : {r : Bool} (p : ℕ → Bool) (k n : ℕ) → any_below p k ≡ false → k < n → n ≤ k + 1 → r ≡ p k → r ≡ any_below p n
+pub last_entry : {r : Bool} (p : ℕ → Bool) (k n : ℕ) → any_below p k ≡ false → k < n → n ≤ k + 1 → r ≡ p k → r ≡ any_below p n
 unfolding any_below
 last_entry p k n b l h e = let q : n ≡ suc k = omega arith in rw (q, b) e
 

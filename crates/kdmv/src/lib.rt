@@ -32,6 +32,7 @@ fn dirty(image: &[u8]) -> u64
     base::number_at::<1>(image, 72)
 }
 
+#[inline(always)]
 fn fields(image: &[u8]) -> KdmvFields
     requires { 512 ≤ length image.now }
     ensures { result ≡ kdmv_fields image.now }

@@ -47,9 +47,10 @@ impl fmt::Display for Words<'_> {
 }
 
 // Number, layer, place, kind, sector, size, offset.
-pub fn put_located(rt: &impl Print, call: &str, a: Located) -> io::Result<()> {
+pub fn put_located(rt: &impl Print, call: &[u8], a: Located) -> io::Result<()> {
+    start(rt, call)?;
     println!(rt;
-        "{call} {} {} {} {} {} {} {} ",
+        "{} {} {} {} {} {} {} ",
         a.number, a.layer, a.place, a.kind, a.sector, a.size, a.offset
     )
 }

@@ -1,12 +1,23 @@
 -- What a search for a sector has found.
-use Rattle.std.proofs.Common.{◌≡◌, ℕ, ◌+◌, List, [], ◌∷◌, Bool, true, false, Option, None, Some, refl, sym, ◌∙◌, ap}
+use Rattle.std.proofs.Common.{◌≡◌, ℕ, ◌+◌, ◌<◌, List, [], ◌∷◌, Bool, true, false, Option, None, Some, refl, sym, ◌∙◌, ap}
+use native.Mathlib.Numerals.{add-one}
+use lib.ListN.{length, get_or, drop}
+use lib.Seq.{drop-cons}
 use Rattle.std.specs.Prelude.{position, cond}
 use Rattle.std.specs.List.{position_from}
 use Rattle.std.proofs.lemmas.Iterator.Adapters.{position_from-zero}
 use Rattle.base.specs.Pick.{pick}
 use Rattle.descriptor.specs.declared.Extent.{Extent}
 use Rattle.descriptor.specs.declared.Found.{Found}
+use Rattle.descriptor.specs.Descriptor.{no_extent}
 use Rattle.descriptor.specs.Records.{holding, found_at, not_found, found_from, find_answer}
+
+-- the search from the record i on
+module _ (ys : List Extent) (i s : ℕ) where
+  pub found_here : i < length ys → found_from (drop i ys) i s
+      ≡ pick (holding (get_or ys i no_extent) s) (found_at i) (found_from (drop (i + 1) ys) (i + 1) s)
+  unfolding found_from
+  found_here l = simp (drop-cons ys i no_extent l, add-one)
 
 -- a record's number in an answer
 abbrev pub told : Option ℕ → Found

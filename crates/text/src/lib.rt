@@ -2,7 +2,7 @@
 // the names of their definitions in the crate `descriptor`.
 #![tactic(auto)]
 
-ghost use Rattle.std.specs.Prelude.{◌≡◌, ◌+◌, ◌≤◌, length, OnOk};
+ghost use Rattle.std.specs.Prelude.{◌≡◌, ◌+◌, ◌≤◌, length, OnOk, OnErr};
 ghost use Rattle.descriptor.specs.Text.{lines};
 ghost use Rattle.descriptor.specs.Descriptor.{start, judged_line, step, judged, read_text};
 ghost use Rattle.lines.specs.LineBounds.{Within};
@@ -21,6 +21,7 @@ fn judged_line(st: &mut State, end: u64, w: &[u8]) -> Result<(), TextRefusal>
     requires within { Within end w.now }
     ensures said { state_after result st.new ≡ judged_line st.old end w.now }
     ensures few { OnOk result (Few (st.old.line + 1) st.new) }
+    ensures kept { OnErr result (st.new ≡ st.old) }
 {
     if st.begun {
         let said = lines::line(st.sum, end, w);
@@ -44,6 +45,7 @@ fn step(text: &[u8], st: &mut State, from: usize, to: usize) -> Result<(), TextR
     requires from_le_to { (from ≤ to) × (to ≤ length text.now) × (length text.now ≤ 65536) }
     ensures said { state_after result st.new ≡ step text.now st.old (record { from = from; to = to }) }
     ensures few { OnOk result (Few (st.old.line + 1) st.new) }
+    ensures kept { OnErr result (st.new ≡ st.old) }
 {
     let w = words::trim_end(&text[from..to]);
     judged_line(st, (from + w.len()) as u64, words::trim_start(w))

@@ -1,6 +1,6 @@
 // What is known after some lines, and how a line changes it: in place, so that a thread with 16 KiB of stack is enough for
 // the calls on texts.
-ghost use Rattle.std.specs.Prelude.{◌≡◌, ◌+◌, ◌≤◌, IfOk, OnOk};
+ghost use Rattle.std.specs.Prelude.{◌≡◌, ◌+◌, ◌≤◌, IfOk, OnOk, OnErr};
 ghost use Rattle.descriptor.specs.Descriptor.{start, skipped, opened, added, once, taken};
 ghost use Rattle.lines.specs.LineBounds.{Bounded};
 ghost use Rattle.text.specs.StateBounds.{Few, state_after};
@@ -78,6 +78,7 @@ fn once(st: &mut State, key: KeyValue) -> Result<(), TextRefusal>
     requires { Few 65536 st.old }
     ensures said { state_after result st.new ≡ once key st.old }
     ensures few { OnOk result (Few (st.old.line + 1) st.new) }
+    ensures kept { OnErr result (st.new ≡ st.old) }
 {
     match key {
         KeyValue::Version(n) if st.version.is_none() => st.version = Some(n),
@@ -96,6 +97,7 @@ pub fn taken(st: &mut State, said: Result<Line, LineFault>) -> Result<(), TextRe
     requires bounded { IfOk said Bounded }
     ensures said { state_after result st.new ≡ taken st.old said }
     ensures few { OnOk result (Few (st.old.line + 1) st.new) }
+    ensures kept { OnErr result (st.new ≡ st.old) }
 {
     match said.map_err(|fault| TextRefusal::InLine(fault, st.line + 1))? {
         Line::Skip => skipped(st),

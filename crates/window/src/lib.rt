@@ -30,6 +30,7 @@ fn mark_part(words: &mut [u64], lo: u64, first: u64, count: u64) -> bool
 // Marks the part of an area that lies in the window. True if a sector of it was marked before; then nothing is changed.
 // Most areas of a large file have no part in a window: they cost two comparisons in the caller's loop. Most others lie in it
 // whole, and nothing is cut off them.
+#[inline(always)]
 pub fn mark_area(words: &mut [u64], lo: u64, first: u64, count: u64) -> bool
     requires { Counted words.old × (first + count < 2 ^ 64) }
     ensures { Run lo words.old (area first count ∷ []) words.new result }

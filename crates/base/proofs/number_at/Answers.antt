@@ -2,7 +2,7 @@ use mathlib.Core.Path.{◌≡◌, refl}
 use native.Mathlib.Omega.{arith}
 use borrow.Author.Rules.{rules}
 use Rattle.base.specs.Numbers.{le_at}
-use Rattle.base.proofs.Numbers.{byte_added, byte_fits, le_below}
+use Rattle.base.proofs.Numbers.{byte_added, byte_above, le_below}
 use Rattle.base.proofs.number_at.Goals as goal
 
 pub loop-i-init : goal.loop-i-init
@@ -13,7 +13,8 @@ pub overflow_add-n : goal.overflow_add-n
 overflow_add-n g c = let a = c.args in
     let l = c.loop-i in
     record {
-      fits = byte_fits a.s.now (λ k. search (rules, c.type_inv.s k)) a.at l.i l.n _ l.invariant c.from.ensures (omega arith);
+      fits = byte_above a.s.now (λ k. search (rules, c.type_inv.s k)) a.at l.i l.n _ l.invariant
+          (search rules) (omega arith);
     }
 
 pub loop-i-preserved : goal.loop-i-preserved

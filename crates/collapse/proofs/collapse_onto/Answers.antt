@@ -4,7 +4,7 @@ use Rattle.collapse.proofs.CollapseSteps.{unknown_refused, known_on, layers_as}
 use Rattle.collapse.proofs.collapse_onto.Goals as goal
 
 pub collapse_layers-requires : goal.collapse_layers-requires
-collapse_layers-requires c = (search checked_of, search (checked_of, c.in_ok-k.was))
+collapse_layers-requires c = (search (checked_of, c.in_ok-k.was), search (checked_of, c.in_ok-k.was))
 
 pub returns-in_err-k : goal.returns-in_err-k
 returns-in_err-k c =
