@@ -64,6 +64,20 @@ fn same_bytes(folder: &Folder, disk: &str) {
     }
 }
 
+/// qemu-io writes a new CID over the descriptor. Where that has fewer digits than the one before, the end of the old text is
+/// left behind the zero byte: it is refused, and cut off here.
+fn cut_behind_zero(folder: &Folder) {
+    let text = fs::read(folder.at("disk")).expect("a descriptor");
+    let end = text.iter().position(|byte| *byte == 0);
+    let (text, left) = text.split_at(end.unwrap_or(text.len()));
+    if left.iter().any(|byte| *byte != 0) {
+        let ran = run(folder.path(), &["check", "disk"]);
+        assert_eq!(ran.status, Some(1));
+        assert!(ran.text().contains("refused 31"), "{}", ran.text());
+        fs::write(folder.at("disk"), text).expect("written");
+    }
+}
+
 /// The raw file itself is hashed by another program.
 fn raw_is_read_right(folder: &Folder, sector: u64) {
     let words = ["read", "raw.vmdk", &sector.to_string()];
@@ -108,6 +122,7 @@ fn split_disks_of_qemu_img() {
                 &["qemu-io", "-f", "vmdk", "-c", &write, "disk"],
             );
         }
+        cut_behind_zero(&folder);
         run(folder.path(), &["check", "disk"]).well();
         same_bytes(&folder, "disk");
         for sector in [0, mib / 1024, last / 512] {
