@@ -64,8 +64,8 @@ fn same_bytes(folder: &Folder, disk: &str) {
     }
 }
 
-/// qemu-io writes a new CID over the descriptor. Where that has fewer digits than the one before, the end of the old text is
-/// left behind the zero byte: it is refused, and cut off here.
+/// qemu-io writes a CID of its own over the descriptor. Where that has two digits fewer than the one before, or more, the end of
+/// the old text is left behind the zero byte: that is refused, and cut off here.
 fn cut_behind_zero(folder: &Folder) {
     let text = fs::read(folder.at("disk")).expect("a descriptor");
     let end = text.iter().position(|byte| *byte == 0);
